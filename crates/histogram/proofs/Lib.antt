@@ -1,0 +1,7 @@
+pub mod Eachs
+pub mod Laws
+pub mod Weights
+pub mod Spans
+pub mod Means
+pub mod Walks
+mod Places
