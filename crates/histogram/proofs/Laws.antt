@@ -1,5 +1,5 @@
 -- The laws of the one sum over levels: none, one more level, bands joined, pointwise order.
-use Prim.Native.Nat.{ℕ, zero, suc, _+_, _*_, _-_, _<_, _≤_}
+use Prim.Native.Nat.{ℕ, zero, suc, _+_, _*_, _-_, _<_, _≤_, max}
 use mathlib.Core.Path.{_≡_, refl, ap, sym, _∙_, subst}
 use mathlib.Core.Logic.{_⊎_, ⊎-elim, inl, inr}
 use mathlib.Core.List.{List, map}
@@ -134,4 +134,20 @@ room h a z l =
     ⊎-elim
       (λ (m : a < z). record { few = band-le one h 0 a z 256 (omega arith) (omega arith) l; dim = levels-high h a z 255 (omega arith) (omega arith) })
       (λ (m : z ≤ a). record { few = omega (arith, sum-none one h a z m); dim = omega (arith, sum-none level h a z m) })
+      (cases-lt a z)
+
+-- A loop over the levels from a to b has ended at z, or had no turn.
+pub sum-ended : (f : ℕ → ℕ) (h : List ℕ) (a b z : ℕ) → a ≤ z → b + 1 ≤ z → z ≤ max a (b + 1) → sumOf f h a z ≡ sumOf f h a (suc b)
+sum-ended f h a b z l m n =
+    ⊎-elim
+      (λ (k : a < suc (suc b)). let e : z ≡ suc b = omega arith in ap (sumOf f h a) e)
+      (λ (k : suc (suc b) ≤ a). sum-none f h a z (omega arith) ∙ sym (sum-none f h a (suc b) (omega arith)))
+      (cases-lt a (suc (suc b)))
+
+-- Where f is at most m at each level, the total is at most m a pixel.
+pub sum-most : (f : ℕ → ℕ) (h : List ℕ) (m a z : ℕ) → ((j : ℕ) → j < z → f j ≤ m) → sumOf f h a z ≤ m * sumOf one h a z
+sum-most f h m a z p =
+    ⊎-elim
+      (λ (l : a < z). omega (arith, sum-le f (λ j. m) h a z (omega arith) (λ j x y o. p j y), sum-const m h a z (omega arith)))
+      (λ (l : z ≤ a). omega (arith, sum-none f h a z l))
       (cases-lt a z)

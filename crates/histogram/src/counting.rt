@@ -109,10 +109,18 @@ impl Tally {
 }
 
 impl BandSums {
+    // How many pixels.
     pub fn count(&self) -> u32
         ensures { λ r. ⌜ r ≡ now (self .entry) .count ⌝ }
     {
         self.count
+    }
+
+    // The sum of the levels.
+    pub fn levels(&self) -> u32
+        ensures { λ r. ⌜ r ≡ now (self .entry) .levels ⌝ }
+    {
+        self.levels
     }
 
     // The level nearest to the mean, the lower one at a half; none without a pixel.

@@ -1,15 +1,12 @@
-use Prim.Native.Nat.{ℕ, suc, _+_, _*_, _<_, _≤_, max}
-use mathlib.Core.List.{List}
-use mathlib.Core.Path.{_≡_, ap, sym, _∙_}
-use mathlib.Core.Logic.{⊎-elim}
+use Prim.Native.Nat.{_+_, _*_, _≤_}
+use mathlib.Core.Path.{sym, _∙_}
 use borrow.Author.Needs.{needs}
 use native.Mathlib.Omega.{arith}
-use native.Mathlib.Nat.{mul-one, mul-comm}
+use native.Mathlib.Nat.{mul-one}
 use lib.ListN.{getD}
 use Rattle.std.proofs.shelf.Bits.{mul-le}
-use Rattle.std.proofs.shelf.Tests.{cases-lt}
 use Rattle.histogram.specs.Totals.{sumOf, one, level}
-use Rattle.histogram.proofs.Laws.{sum-none, sum-more, count-le, room}
+use Rattle.histogram.proofs.Laws.{sum-none, sum-more, sum-ended, count-le, room}
 use Rattle.histogram.proofs.tally.Tally.sums.Needs as need
 
 pub loop-level-holds : need.loop-level-holds
@@ -58,14 +55,6 @@ ghost-result c =
     let r = room (t .histogram .counts) (c .args .low) (c .loop-level .level) (omega arith) in
     (omega (arith, r .few, t .adds, t .few, c .loop-level .inv .0), (omega (arith, r .dim, c .loop-level .inv .0, c .loop-level .inv .1), tt))
 
--- where the loop has ended, or where it had no turn
-ended : (f : ℕ → ℕ) (h : List ℕ) (a b z : ℕ) → a ≤ z → b + 1 ≤ z → z ≤ max a (b + 1) → sumOf f h a z ≡ sumOf f h a (suc b)
-ended f h a b z l m n =
-    ⊎-elim
-      (λ (k : a < suc (suc b)). let e : z ≡ suc b = omega arith in ap (sumOf f h a) e)
-      (λ (k : suc (suc b) ≤ a). sum-none f h a z (omega arith) ∙ sym (sum-none f h a (suc b) (omega arith)))
-      (cases-lt a (suc (suc b)))
-
 pub returns : need.returns
 returns c =
     let h = c .args .self .now .histogram .counts in
@@ -73,6 +62,6 @@ returns c =
     let b = c .args .high in
     let z = c .loop-level .level in
     record {
-      count = c .loop-level .inv .0 ∙ ended one h a b z (omega arith) (omega arith) (c .loop-level .inv .2);
-      levels = c .loop-level .inv .1 ∙ ended level h a b z (omega arith) (omega arith) (c .loop-level .inv .2);
+      count = c .loop-level .inv .0 ∙ sum-ended one h a b z (omega arith) (omega arith) (c .loop-level .inv .2);
+      levels = c .loop-level .inv .1 ∙ sum-ended level h a b z (omega arith) (omega arith) (c .loop-level .inv .2);
     }

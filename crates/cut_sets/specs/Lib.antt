@@ -1,0 +1,3 @@
+pub mod Bands
+pub mod CutSums
+pub mod Sets

@@ -1,0 +1,4 @@
+pub mod Ratios
+pub mod Classes
+pub mod Choice
+pub mod Halves

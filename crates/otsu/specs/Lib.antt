@@ -1,0 +1,2 @@
+pub mod Otsu
+pub mod Search
