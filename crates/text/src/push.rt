@@ -10,7 +10,10 @@ impl Text {
     pub fn new() -> Text
         ensures { λ r. ⌜ textOf r ≡ [] ⌝ }
     {
-        Text { bytes: [0; 256], used: 0 }
+        Text {
+            bytes: [0; 256],
+            used: 0,
+        }
     }
 
     pub fn push_byte(&mut self, byte: u8)

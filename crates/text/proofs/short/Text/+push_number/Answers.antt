@@ -14,15 +14,15 @@ returns t c =
     let n = c .args .n in
     let start = textOf (c .args .self .now) in
     let last = (48 + n % 10) ∷ [] in
-    elim (c .if-n-ge10 .came)
-    [ then-n-ge10 w ↦
-        c .push-byte .ensures
-        ∙ clipped-then start (textOf (c .if-n-ge10 .self)) (decimal (n / 10)) last (ap textOf (w .self-is) ∙ w .push-number .ensures)
-        ∙ ap (λ l. clipped (start ++ l)) (sym (decimal-step n (w .if-n-ge10 .taken) (omega arith)))
-    | else-n-ge10 w ↦
-        let small : n % 10 ≡ n = omega (arith, w .if-n-ge10 .left) in
-        c .push-byte .ensures
-        ∙ ap (λ s. clipped (textOf s ++ last)) (w .self-is)
-        ∙ ap (λ k. clipped (start ++ ((48 + k) ∷ []))) small
-        ∙ ap (λ l. clipped (start ++ l)) (sym (decimal-digit n (w .if-n-ge10 .left)))
+    elim (c .if-n-ge10 .came) [
+      | then-n-ge10 w ↦
+          c .push-byte .ensures
+          ∙ clipped-then start (textOf (c .if-n-ge10 .self)) (decimal (n / 10)) last (ap textOf (w .self-is) ∙ w .push-number .ensures)
+          ∙ ap (λ l. clipped (start ++ l)) (sym (decimal-step n (w .if-n-ge10 .taken) (omega arith)))
+      | else-n-ge10 w ↦
+          let small : n % 10 ≡ n = omega (arith, w .if-n-ge10 .left) in
+          c .push-byte .ensures
+          ∙ ap (λ s. clipped (textOf s ++ last)) (w .self-is)
+          ∙ ap (λ k. clipped (start ++ ((48 + k) ∷ []))) small
+          ∙ ap (λ l. clipped (start ++ l)) (sym (decimal-digit n (w .if-n-ge10 .left)))
     ]

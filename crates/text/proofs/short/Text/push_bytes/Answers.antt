@@ -14,7 +14,8 @@ loop-byte-again c =
     let start = textOf (c .args .self .now) in
     let bytes = c .args .bytes .now in
     let i = c .loop-byte .byte-index in
-    c .push-byte .ensures
+    let one : textOf (c .push-byte .last .self) ≡ clipped (textOf (c .loop-byte .self) ++ (getD bytes i 0 ∷ [])) = c .push-byte .ensures in
+    one
     ∙ clipped-then start (textOf (c .loop-byte .self)) (take i bytes) (getD bytes i 0 ∷ []) (c .loop-byte .inv)
     ∙ ap (λ l. clipped (start ++ l)) (sym (take-more bytes i 0 (c .loop-byte-test .taken)))
 
