@@ -4,7 +4,7 @@ use mathlib.Core.List.{List, [], _∷_, _++_, append-assoc, append-nil}
 use Prim.Native.Nat.{ℕ, zero, suc, _+_, _≤_, _<_}
 use native.Mathlib.Omega.{arith}
 use lib.ListN.{length, take, set}
-use Rattle.std.proofs.shelf.Lists.{length-take-le, length-push, take-all, take-at, take-more-set}
+use Rattle.std.proofs.shelf.Lists.{length-append, length-take-le, length-push, take-all, take-at, take-more-set}
 use Rattle.text.specs.declared.short.Text.{Text}
 use Rattle.text.specs.Texts.{textOf, clipped}
 
@@ -22,6 +22,10 @@ clipped-short xs h = take-all 256 xs h
 -- one push after others
 pub clipped-then : (start cur xs ys : List ℕ) → cur ≡ clipped (start ++ xs) → clipped (cur ++ ys) ≡ clipped (start ++ (xs ++ ys))
 clipped-then start cur xs ys e = ap (λ l. clipped (l ++ ys)) e ∙ clipped-again (start ++ xs) ys ∙ ap clipped (append-assoc start xs ys)
+
+-- one push after others, where all fits
+pub pushed-whole : (xs ys was now : List ℕ) → was ≡ xs → now ≡ clipped (was ++ ys) → length xs + length ys ≤ 256 → now ≡ xs ++ ys
+pushed-whole xs ys was now e p h = p ∙ ap (λ l. clipped (l ++ ys)) e ∙ clipped-short (xs ++ ys) (omega (arith, length-append xs ys))
 
 pub length-text : (t : Text) → length (textOf t) ≡ t .used
 length-text t = length-take-le (t .used) (t .bytes) (omega (arith, t .fits, t .room))

@@ -32,6 +32,7 @@ length-fields [] = refl
 length-fields (n ∷ ns) = omega (arith, length-append (decimal n) (fields ns), length-fields ns)
 
 pub length-line : (name ns : List ℕ) → length (line name ns) ≡ length name + fieldsLength ns + 1
+unfolding line
 length-line name ns = omega (arith, length-append name (fields ns ++ (10 ∷ [])), length-append (fields ns) (10 ∷ []), length-fields ns)
 
 -- the digits of any u64

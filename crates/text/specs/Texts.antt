@@ -23,7 +23,7 @@ fields [] = []
 fields (n ∷ ns) = 32 ∷ (decimal n ++ fields ns)
 
 -- A line: a name, numbers, and LF.
-abbrev pub line : List ℕ → List ℕ → List ℕ
+unfoldable pub line : List ℕ → List ℕ → List ℕ
 line name numbers = name ++ (fields numbers ++ (10 ∷ []))
 
 -- A buffer with a text at its front; behind the text it keeps its bytes.

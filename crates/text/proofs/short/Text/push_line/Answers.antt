@@ -3,7 +3,7 @@ use mathlib.Core.List.{_∷_, [], _++_, append-assoc}
 use lib.ListN.{take, getD}
 use Rattle.std.specs.Written.{decimal}
 use Rattle.std.proofs.shelf.Lists.{take-all}
-use Rattle.text.specs.Texts.{textOf, clipped, fields}
+use Rattle.text.specs.Texts.{textOf, clipped, fields, line}
 use Rattle.text.proofs.Clips.{text-clipped, clipped-then}
 use Rattle.text.proofs.Lines.{fields-more}
 use Rattle.text.proofs.short.Text.push_line.Needs as need
@@ -25,6 +25,7 @@ loop-n-again c =
     ∙ ap (λ l. clipped (start ++ l)) (sym (fields-more ns i (c .loop-n-test .taken)))
 
 pub returns : need.returns
+unfolding line
 returns c =
     let name = c .args .name .now in
     let ns = c .args .numbers .now in
