@@ -163,26 +163,39 @@ at-end m p h = by (m .stage) (m .field) h
     by Digits f h = stuck f (p + 0) (add-zero p)
     by Done f h = absurd (h refl)
 
--- the loop at place i + 2 of the file: a byte read, a byte refused, the last byte read, and the end
-at-turn : (m : HeaderMachine) (i : ℕ) (rest : List ℕ) → i < length rest → left m (i + 2) (drop i rest) ≡ shapeOf rest → left m (i + 2) (getD rest i 0 ∷ drop (i + 1) rest) ≡ shapeOf rest
-at-turn m i rest h inv = sym (at-drop-more (left m (i + 2)) rest i 0 h) ∙ inv
+-- the loop at place i + 2 of the file: what the header will be, and what it is if the file ends here
+pub record Reached (rest : List ℕ) (i : ℕ) (m : HeaderMachine) : Type 0 where
+  pub going : m .stage ≡ Done → ⊥
+  pub ahead : left m (i + 2) (drop i rest) ≡ shapeOf rest
+  pub ended : length rest ≤ i → i ≤ length rest → Err (fault 1 12 (length rest + 2)) ≡ shapeOf rest
 
-after : (m m′ : HeaderMachine) (i : ℕ) (rest : List ℕ) → i < length rest → left m (i + 2) (drop i rest) ≡ shapeOf rest → ((bs : List ℕ) → left m (i + 2) (getD rest i 0 ∷ bs) ≡ left m′ (i + 2 + 1) bs)
-    → left m′ (i + 2 + 1) (drop (i + 1) rest) ≡ shapeOf rest
-after m m′ i rest h inv on = sym (on (drop (i + 1) rest)) ∙ at-turn m i rest h inv
+reached : (rest : List ℕ) (i : ℕ) (m : HeaderMachine) → (m .stage ≡ Done → ⊥) → left m (i + 2) (drop i rest) ≡ shapeOf rest → Reached rest i m
+reached rest i m going ahead =
+    record {
+      going = going;
+      ahead = ahead;
+      ended = λ a b. ap (λ n. Err (fault 1 12 (n + 2))) (omega arith) ∙ sym (at-end m (i + 2) going) ∙ sym (at-drop-all (left m (i + 2)) rest i a) ∙ ahead;
+    }
 
-pub turn-on : (m m′ : HeaderMachine) (i : ℕ) (rest : List ℕ) → i < length rest → left m (i + 2) (drop i rest) ≡ shapeOf rest → ((bs : List ℕ) → left m (i + 2) (getD rest i 0 ∷ bs) ≡ left m′ (i + 2 + 1) bs)
-    → left m′ (i + 1 + 2) (drop (i + 1) rest) ≡ shapeOf rest
-turn-on m m′ i rest h inv on = ap (λ p. left m′ p (drop (i + 1) rest)) (omega arith) ∙ after m m′ i rest h inv on
+pub reached-none : (rest : List ℕ) (m : HeaderMachine) → m .stage ≡ Opened → left m 2 rest ≡ shapeOf rest → Reached rest 0 m
+reached-none rest m e ahead = reached rest 0 m (λ d. let z : Opened ≡ Done = sym e ∙ d in let y : _≡_ {A = ℕ} 0 1 = cc in omega arith) ahead
 
-pub turn-refused : (m : HeaderMachine) (e : Fault) (i : ℕ) (rest : List ℕ) → i < length rest → left m (i + 2) (drop i rest) ≡ shapeOf rest → ((bs : List ℕ) → left m (i + 2) (getD rest i 0 ∷ bs) ≡ Err e) → Err e ≡ shapeOf rest
-turn-refused m e i rest h inv on = sym (on (drop (i + 1) rest)) ∙ at-turn m i rest h inv
+-- one turn: the byte was read, was the header's last, or was refused
+at-turn : (m : HeaderMachine) (i : ℕ) (rest : List ℕ) → i < length rest → Reached rest i m → left m (i + 2) (getD rest i 0 ∷ drop (i + 1) rest) ≡ shapeOf rest
+at-turn m i rest h r = sym (at-drop-more (left m (i + 2)) rest i 0 h) ∙ r .ahead
 
-pub turn-done : (m m′ : HeaderMachine) (i : ℕ) (rest : List ℕ) → i < length rest → left m (i + 2) (drop i rest) ≡ shapeOf rest → ((bs : List ℕ) → left m (i + 2) (getD rest i 0 ∷ bs) ≡ left m′ (i + 2 + 1) bs)
-    → m′ .stage ≡ Done → Ok (shape (m′ .columns) (m′ .rows) (m′ .maxval) (i + 3)) ≡ shapeOf rest
-turn-done m m′ i rest h inv on done =
-    ap (λ p. Ok (shape (m′ .columns) (m′ .rows) (m′ .maxval) p)) (omega arith) ∙ sym (ap (λ s. onStage m′ s (i + 2 + 1) (drop (i + 1) rest)) done) ∙ after m m′ i rest h inv on
+abbrev Stepped : HeaderMachine → HeaderMachine → ℕ → List ℕ → Type 0
+Stepped m m′ i rest = (bs : List ℕ) → left m (i + 2) (getD rest i 0 ∷ bs) ≡ left m′ (i + 2 + 1) bs
 
-pub turns-end : (m : HeaderMachine) (i : ℕ) (rest : List ℕ) → length rest ≡ i → left m (i + 2) (drop i rest) ≡ shapeOf rest → (m .stage ≡ Done → ⊥) → Err (fault 1 12 (length rest + 2)) ≡ shapeOf rest
-turns-end m i rest e inv going =
-    ap (λ n. Err (fault 1 12 (n + 2))) e ∙ sym (at-end m (i + 2) going) ∙ sym (at-drop-all (left m (i + 2)) rest i (omega arith)) ∙ inv
+after : (m m′ : HeaderMachine) (i : ℕ) (rest : List ℕ) → i < length rest → Reached rest i m → Stepped m m′ i rest → left m′ (i + 2 + 1) (drop (i + 1) rest) ≡ shapeOf rest
+after m m′ i rest h r on = sym (on (drop (i + 1) rest)) ∙ at-turn m i rest h r
+
+pub reached-more : (m m′ : HeaderMachine) (i : ℕ) (rest : List ℕ) → i < length rest → Reached rest i m → Stepped m m′ i rest → (m′ .stage ≡ Done → ⊥) → Reached rest (i + 1) m′
+reached-more m m′ i rest h r on going = reached rest (i + 1) m′ going (ap (λ p. left m′ p (drop (i + 1) rest)) (omega arith) ∙ after m m′ i rest h r on)
+
+pub reached-done : (m m′ : HeaderMachine) (i : ℕ) (rest : List ℕ) → i < length rest → Reached rest i m → Stepped m m′ i rest → m′ .stage ≡ Done → Ok (shape (m′ .columns) (m′ .rows) (m′ .maxval) (i + 3)) ≡ shapeOf rest
+reached-done m m′ i rest h r on done =
+    ap (λ p. Ok (shape (m′ .columns) (m′ .rows) (m′ .maxval) p)) (omega arith) ∙ sym (ap (λ s. onStage m′ s (i + 2 + 1) (drop (i + 1) rest)) done) ∙ after m m′ i rest h r on
+
+pub reached-fault : (m : HeaderMachine) (e : Fault) (i : ℕ) (rest : List ℕ) → i < length rest → Reached rest i m → ((bs : List ℕ) → left m (i + 2) (getD rest i 0 ∷ bs) ≡ Err e) → Err e ≡ shapeOf rest
+reached-fault m e i rest h r on = sym (on (drop (i + 1) rest)) ∙ at-turn m i rest h r

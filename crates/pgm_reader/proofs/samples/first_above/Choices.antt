@@ -1,8 +1,5 @@
-use mathlib.Core.Path.{_≡_}
-use Prim.Native.Nat.{_+_}
-use lib.ListN.{drop}
-use Rattle.pgm_reader.specs.Format.{upTo}
+use Rattle.pgm_reader.proofs.Above.{Passed}
 use Rattle.pgm_reader.proofs.samples.first_above.Given as given
 
 abbrev pub Inv-loop-i : given.InvT-loop-i
-Inv-loop-i l = upTo (l .top) (l .bytes) ≡ l .i + upTo (l .top) (drop (l .i) (l .bytes))
+Inv-loop-i l = Passed (l .top) (l .bytes) (l .i)
