@@ -2,7 +2,7 @@
 use mathlib.Core.Path.{_≡_, refl, sym, ap, subst, _∙_}
 use mathlib.Core.Bool.{Bool, true, false, cond, _&&_}
 use mathlib.Core.List.{List, [], _∷_, _++_, append-assoc}
-use Prim.Native.Nat.{ℕ, _+_, _-_, _*_, _≤_}
+use Prim.Native.Nat.{ℕ, _+_, _*_, _≤_}
 use native.Mathlib.Omega.{arith}
 use lib.Dec.{ltb, eqb}
 use lib.ListN.{length, take, drop}
@@ -49,9 +49,9 @@ samples-cut : (bs rest : List ℕ) (s : Shape) → drop (s .first) bs ≡ rest �
 samples-cut bs rest s d = ap (λ k. take k (drop (s .first) bs)) (omega arith) ∙ ap (take (s .columns * s .rows)) d
 
 -- the samples of an accepted file
-all-dim : (bs rest : List ℕ) (s : Shape) (h : Header) → drop (s .first) bs ≡ rest → withSamples bs s ≡ Ok h
+accepted-samples : (bs rest : List ℕ) (s : Shape) (h : Header) → drop (s .first) bs ≡ rest → withSamples bs s ≡ Ok h
     → (s .first + s .columns * s .rows ≤ length bs) × (h ≡ header s) × All (λ b. b ≤ s .maxval) (take (s .columns * s .rows) rest)
-all-dim bs rest s h d e =
+accepted-samples bs rest s h d e =
     let n = s .columns * s .rows in
     let a = cond-no (ltb (length bs) (s .first + n)) _ _ h e in
     let u = unless-ok (firstAbove (s .maxval) (samples bs (header s))) (header s) h (a .1) in
@@ -72,7 +72,7 @@ sound-at bs h s e f =
     ∙ ap (λ l. p .columns .ws ++ (p .columns .ds ++ l)) (p .rows .split
     ∙ ap (λ l. p .rows .ws ++ (p .rows .ds ++ l)) (p .maxval .split ∙ ap (λ l. p .maxval .ws ++ (p .maxval .ds ++ l)) (w .2)))) in
     let tail : drop (s .first) file ≡ w .1 = behind file (p .columns .ws) (p .columns .ds) (p .rows .ws) (p .rows .ds) (p .maxval .ws) (p .maxval .ds) (w .0) (w .1) (s .first) whole long in
-    let q = all-dim file (w .1) s h tail f in
+    let q = accepted-samples file (w .1) s h tail f in
     let hc : h .columns ≡ p .c .value = ap (λ x. x .columns) (q .1) ∙ ap (λ x. x .columns) (p .is) in
     let hr : h .rows ≡ p .r .value = ap (λ x. x .rows) (q .1) ∙ ap (λ x. x .rows) (p .is) in
     let hm : h .maxval ≡ p .m .value = ap (λ x. x .maxval) (q .1) ∙ ap (λ x. x .maxval) (p .is) in
@@ -95,7 +95,7 @@ sound-at bs h s e f =
       first = omega (arith, hf, long);
       end = ap (λ x. x .end) (q .1) ∙ sym (ap (λ k. k + h .columns * h .rows) hf ∙ ap (λ k. s .first + k) hn);
       enough = omega (arith, hn, q .0, long);
-      dim = subst (λ k. All (λ b. b ≤ h .maxval) (take k (w .1))) (sym hn) (subst (λ v. All (λ b. b ≤ v) (take (s .columns * s .rows) (w .1))) (sym (ap (λ x. x .maxval) (q .1))) (q .2));
+      noneAbove = subst (λ k. All (λ b. b ≤ h .maxval) (take k (w .1))) (sym hn) (subst (λ v. All (λ b. b ≤ v) (take (s .columns * s .rows) (w .1))) (sym (ap (λ x. x .maxval) (q .1))) (q .2));
     }
 
 pub sound : (bs : List ℕ) (h : Header) → imageOf bs ≡ Ok h → GreyMap bs h
@@ -117,9 +117,9 @@ sound (a ∷ b ∷ bs) h e =
 
 -- the samples of a map
 samples-are : (file rest : List ℕ) (s : Shape) → drop (s .first) file ≡ rest → s .first + length rest ≡ length file → s .columns * s .rows ≤ length rest → All (λ b. b ≤ s .maxval) (take (s .columns * s .rows) rest) → withSamples file s ≡ Ok (header s)
-samples-are file rest s d l enough dim =
+samples-are file rest s d l enough small =
     let xs = samples file (header s) in
-    let none = all-none (s .maxval) xs (subst (All (λ b. b ≤ s .maxval)) (sym (samples-cut file rest s d)) dim) in
+    let none = all-none (s .maxval) xs (subst (All (λ b. b ≤ s .maxval)) (sym (samples-cut file rest s d)) small) in
     ap (λ b. cond b (Err (fault 1 14 (length file))) (unlessAbove (header s) (firstAbove (s .maxval) xs))) (le-ltb (length file) (s .first + s .columns * s .rows) (omega (arith, l, enough)))
     ∙ ap (unlessAbove (header s)) none
 
@@ -143,7 +143,7 @@ complete bs h m =
     omega (arith, length-append (m .ws₁) (m .ds₁ ++ r₁), length-append (m .ds₁) r₁, length-append (m .ws₂) (m .ds₂ ++ r₂), length-append (m .ds₂) r₂, length-append (m .ws₃) (m .ds₃ ++ r₃), length-append (m .ds₃) r₃) in
     let f : h .first ≡ p₃ + 1 = omega (arith, l, m .first, ap length (m .whole)) in
     let tail : drop (p₃ + 1) file ≡ m .rest = behind file (m .ws₁) (m .ds₁) (m .ws₂) (m .ds₂) (m .ws₃) (m .ds₃) (m .space) (m .rest) (p₃ + 1) refl (sym l) in
-    let k = samples-are file (m .rest) s tail (sym l) (m .enough) (m .dim) in
+    let k = samples-are file (m .rest) s tail (sym l) (m .enough) (m .noneAbove) in
     ap imageOf (m .whole) ∙ ap (λ r. andThen r (withSamples file)) e ∙ k
     ∙ ap Ok (same-header (header s) h refl refl refl (sym f) (ap (λ x. x + h .columns * h .rows) (sym f) ∙ sym (m .end)))
 

@@ -22,7 +22,7 @@ use Rattle.pgm_reader.specs.declared.header.Stage.{Stage}
 use Rattle.pgm_reader.specs.declared.header.Stage.the-variants.{Opened, Gap, Digits, Done}
 use Rattle.pgm_reader.specs.declared.header.Shape.{Shape}
 use Rattle.pgm_reader.specs.declared.header.HeaderMachine.{HeaderMachine}
-use Rattle.pgm_reader.specs.Format.{white, digit, run, valueFrom, NumberRule, Found, found, closes, ranged, closed, digitsOn, digitsAt, gapAt, numberAt, headerRule, toMaxval, toRows, toColumns, shape, shapeOf}
+use Rattle.pgm_reader.specs.Format.{white, digit, run, valueFrom, NumberRule, Found, found, closes, closed, digitsOn, digitsAt, gapAt, numberAt, headerRule, toMaxval, toRows, toColumns, shape, shapeOf}
 use Rattle.pgm_reader.specs.Machine.{kindOf, largestOf, ruleOf, onField, onStage, left, ending, Steps, Closes}
 use Rattle.pgm_reader.proofs.Numbers.{white-no-digit, closed-is}
 

@@ -39,7 +39,7 @@ pub record GreyMap (bs : List ℕ) (h : Header) : Type 0 where
   pub first : h .first + length rest ≡ length bs
   pub end : h .end ≡ h .first + h .columns * h .rows
   pub enough : h .columns * h .rows ≤ length rest
-  pub dim : All (λ b. b ≤ h .maxval) (take (h .columns * h .rows) rest)
+  pub noneAbove : All (λ b. b ≤ h .maxval) (take (h .columns * h .rows) rest)
 
 -- What an answer says of the file: reading accepts exactly the maps, with their headers.
 abbrev pub Maps : List ℕ → Result Header ReadFault → Type 0
