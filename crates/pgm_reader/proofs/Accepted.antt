@@ -17,10 +17,10 @@ use Rattle.pgm_reader.proofs.Maps.{sound}
 pub map-bounds : (bs : List ℕ) (h : Header) → GreyMap bs h → Bounds bs h
 map-bounds bs h m =
     record {
-      someColumns = m .columns .low;
-      fewColumns = m .columns .high;
-      someRows = m .rows .low;
-      fewRows = m .rows .high;
+      columnsLow = m .columns .low;
+      columnsHigh = m .columns .high;
+      rowsLow = m .rows .low;
+      rowsHigh = m .rows .high;
       maxvalLow = m .maxval .low;
       maxvalHigh = m .maxval .high;
       area = m .end;

@@ -30,7 +30,7 @@ abbrev pub starts : (ℕ → Bool) → List ℕ → Bool
 starts t [] = false
 starts t (b ∷ bs) = t b
 
--- How many bytes at the front may stand between numbers. The first of them must be white.
+-- How many bytes at the front may stand before a number; the first of them is white (numberAt).
 abbrev pub gap : List ℕ → ℕ
 gap bs = run white bs
 
@@ -39,7 +39,8 @@ abbrev pub valueFrom : ℕ → List ℕ → ℕ
 valueFrom n [] = n
 valueFrom n (c ∷ cs) = valueFrom (n * 10 + (c - 48)) cs
 
--- The rule for a number in a file: its range, the numbers of its two faults, and whether the file's end closes it as a white byte does.
+-- The rule for a number in a file: its range; the fault's number where a byte cannot stand or the file ends too early, and where the
+-- value is out of range; and whether the file's end closes the number, as a white byte does.
 pub record NumberRule : Type 0 where
   pub low : ℕ
   pub high : ℕ
@@ -61,7 +62,7 @@ abbrev pub closes : NumberRule → List ℕ → Bool
 closes rule [] = rule .endCloses
 closes rule (b ∷ bs) = white b
 
--- A number of value v whose digits begin at place d and end before place q, where the file goes on with bs.
+-- A number of value v whose digits begin at place d and end before place q, where the file goes on with bs: first its range, then its end too.
 abbrev pub ranged : NumberRule → ℕ → ℕ → ℕ → List ℕ → Result Found Fault
 ranged rule v d q bs = cond (leb (rule .low) v && leb v (rule .high)) (Ok (found v q bs)) (Err (fault 1 (rule .outOfRange) d))
 
@@ -84,7 +85,7 @@ gapAt rule p bs = digitsAt rule (p + gap bs) (drop (gap bs) bs)
 abbrev pub numberAt : NumberRule → ℕ → List ℕ → Result Found Fault
 numberAt rule p bs = cond (starts white bs) (gapAt rule p bs) (Err (fault 1 (rule .malformed) p))
 
--- A number of the header is from 1 to its largest.
+-- A number of the header is from 1 to top, and the file's end does not close it.
 abbrev pub headerRule : ℕ → NumberRule
 headerRule top = record { low = 1; high = top; malformed = 12; outOfRange = 13; endCloses = false }
 
@@ -101,14 +102,14 @@ toRows c f = andThen f (λ r. toMaxval c (r .value) (numberAt (headerRule 255) (
 abbrev pub toColumns : Result Found Fault → Result Shape Fault
 toColumns f = andThen f (λ c. toRows (c .value) (numberAt (headerRule 4096) (c .place) (c .rest)))
 
--- The header behind the two first bytes.
+-- The header, from the byte behind `P5` on.
 abbrev pub shapeOf : List ℕ → Result Shape Fault
 shapeOf bs = toColumns (numberAt (headerRule 4096) 2 bs)
 
 abbrev pub header : Shape → Header
 header s = record { columns = s .columns; rows = s .rows; maxval = s .maxval; first = s .first; end = s .first + s .columns * s .rows }
 
--- The samples of the file bs with the header h, row by row.
+-- The samples of the file bs with the header h, row by row: the bytes from the place first up to the place end.
 abbrev pub samples : List ℕ → Header → List ℕ
 samples bs h = take (h .end - h .first) (drop (h .first) bs)
 

@@ -1,8 +1,9 @@
--- How the header's machine reads on: what its private functions promise each other.
+-- What the private functions of the reader promise each other.
 use mathlib.Core.Path.{_≡_}
 use mathlib.Core.Bool.{true, cond}
 use mathlib.Core.List.{List, _∷_}
-use Prim.Native.Nat.{ℕ, _+_, _-_}
+use Prim.Native.Nat.{ℕ, _+_, _-_, _≤_}
+use lib.ListN.{length, getD, take, drop}
 use Rattle.std.specs.declared.result.Result.{Result}
 use Rattle.std.specs.declared.result.Result.the-variants.{Ok, Err}
 use Rattle.faults.specs.declared.Fault.{Fault}
@@ -29,7 +30,7 @@ largestOf Maxval = 255
 abbrev pub ruleOf : Field → NumberRule
 ruleOf f = headerRule (largestOf f)
 
--- The header of c columns and r rows from a field on, whose number is f.
+-- The header from a field on whose number is f; c and r are the columns and the rows, where they are read already.
 abbrev pub onField : ℕ → ℕ → Field → Result Found Fault → Result Shape Fault
 onField c r Columns f = toColumns f
 onField c r Rows f = toRows c f
@@ -41,7 +42,7 @@ onStage m Gap p bs = onField (m .columns) (m .rows) (m .field) (gapAt (ruleOf (m
 onStage m Digits p bs = onField (m .columns) (m .rows) (m .field) (digitsOn (ruleOf (m .field)) (m .value) (m .start) p bs)
 onStage m Done p bs = Ok (shape (m .columns) (m .rows) (m .maxval) p)
 
--- What the header will be for a machine that is at place p, where the file goes on with bs.
+-- What the machine m, at place p, will make of the header if the file goes on with bs.
 abbrev pub left : HeaderMachine → ℕ → List ℕ → Result Shape Fault
 left m p bs = onStage m (m .stage) p bs
 
@@ -58,3 +59,10 @@ ending m p bs = onField (m .columns) (m .rows) (m .field) (closed (ruleOf (m .fi
 abbrev pub Closes : HeaderMachine → HeaderMachine → Result (Unit {0}) ReadFault → Type 0
 Closes m m′ (Ok u) = (p b : ℕ) (bs : List ℕ) → white b ≡ true → ending m p (b ∷ bs) ≡ left m′ (p + 1) bs
 Closes m m′ (Err f) = (p b : ℕ) (bs : List ℕ) → white b ≡ true → ending m p (b ∷ bs) ≡ Err (readFault f)
+
+-- The file bs starts with `P5`, and goes on with rest.
+pub record Behind (bs rest : List ℕ) : Type 0 where
+  pub long : 2 ≤ length bs
+  pub first : getD bs 0 0 ≡ 80
+  pub second : getD bs 1 0 ≡ 53
+  pub follows : rest ≡ take (length bs - 2) (drop 2 bs)

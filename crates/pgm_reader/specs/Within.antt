@@ -9,10 +9,10 @@ use Rattle.pgm_reader.specs.declared.fault.ReadFault.{ReadFault}
 use Rattle.pgm_reader.specs.declared.read.Header.{Header}
 
 pub record Bounds (bs : List ℕ) (h : Header) : Type 0 where
-  pub someColumns : 1 ≤ h .columns
-  pub fewColumns : h .columns ≤ 4096
-  pub someRows : 1 ≤ h .rows
-  pub fewRows : h .rows ≤ 4096
+  pub columnsLow : 1 ≤ h .columns
+  pub columnsHigh : h .columns ≤ 4096
+  pub rowsLow : 1 ≤ h .rows
+  pub rowsHigh : h .rows ≤ 4096
   pub maxvalLow : 1 ≤ h .maxval
   pub maxvalHigh : h .maxval ≤ 255
   pub area : h .end ≡ h .first + h .columns * h .rows

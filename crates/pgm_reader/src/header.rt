@@ -147,7 +147,7 @@ impl HeaderMachine {
     }
 }
 
-// The header behind the two first bytes. Places count from the file's first byte.
+// The header, from the byte behind `P5` on. Places still count from the start of the file.
 pub(crate) fn read_shape(rest: &[u8]) -> Result<Shape, ReadFault>
     ensures { λ r. ⌜ told readFault r ≡ shapeOf (now (rest .entry)) ⌝ }
 {

@@ -6,6 +6,7 @@ ghost use Rattle.faults.specs.Faults.{told};
 ghost use Rattle.pgm_reader.specs.Faults.{readFault};
 ghost use Rattle.pgm_reader.specs.Format.{withSamples, imageOf};
 ghost use Rattle.pgm_reader.specs.Grammar.{Maps};
+ghost use Rattle.pgm_reader.specs.Machine.{Behind};
 ghost use Rattle.pgm_reader.specs.Within.{Within};
 use crate::fault::ReadFault;
 use crate::header::Shape;
@@ -51,17 +52,27 @@ fn read_samples(bytes: &[u8], shape: Shape) -> Result<Header, ReadFault>
     }
 }
 
+// The file `bytes` from `rest` on, which is what follows its `P5`.
+fn read_behind(bytes: &[u8], rest: &[u8]) -> Result<Header, ReadFault>
+    requires { ⌜ Behind (now bytes) (now rest) ⌝ }
+    ensures answer { λ r. ⌜ told readFault r ≡ imageOf (now (bytes .entry)) ⌝ }
+    ensures grammar { λ r. ⌜ Maps (now (bytes .entry)) r ⌝ }
+    ensures within { λ r. ⌜ Within (now (bytes .entry)) r ⌝ }
+{
+    let shape = read_shape(rest)?;
+    read_samples(bytes, shape)
+}
+
 // The header of a binary grey map whose samples are all there and none above its maxval.
 pub fn read(bytes: &[u8]) -> Result<Header, ReadFault>
     ensures answer { λ r. ⌜ told readFault r ≡ imageOf (now (bytes .entry)) ⌝ }
     ensures grammar { λ r. ⌜ Maps (now (bytes .entry)) r ⌝ }
     ensures within { λ r. ⌜ Within (now (bytes .entry)) r ⌝ }
 {
-    let [b'P', b'5', rest @ ..] = bytes else {
-        return Err(ReadFault::NotP5);
-    };
-    let shape = read_shape(rest)?;
-    read_samples(bytes, shape)
+    match bytes {
+        [b'P', b'5', rest @ ..] => read_behind(bytes, rest),
+        _ => Err(ReadFault::NotP5),
+    }
 }
 
 #[cfg(test)]
