@@ -1,8 +1,8 @@
 pub mod Runs
 pub mod Numbers
-pub mod Steps
-pub mod Shapes
-pub mod Whole
+mod Steps
+mod Shapes
+mod Whole
 pub mod Above
 pub mod Maps
 pub mod Accepted
