@@ -1,0 +1,5 @@
+pub mod Faults
+pub mod Format
+pub mod Grammar
+pub mod Machine
+pub mod Within
