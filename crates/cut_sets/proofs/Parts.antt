@@ -45,15 +45,15 @@ distance-most d h v a z b n l = omega (arith, sum-most (λ j. d j v) h 65025 a z
 pub some-mean : (n : ℕ) (b e : Band) → Some b ≡ cond (eqb n 0) None (Some e) → b ≡ e
 some-mean n b e h =
     ⊎-elim
-      (λ (t : eqb n 0 ≡ true). let k : Some b ≡ None = rw t at h in let z : _≡_ {A = ℕ} 0 1 = cc in absurd (omega arith))
-      (λ (t : eqb n 0 ≡ false). let k : Some b ≡ Some e = rw t at h in cc)
-      (cases-bool (eqb n 0))
+    (λ (t : eqb n 0 ≡ true). let k : Some b ≡ None = rw t at h in let z : _≡_ {A = ℕ} 0 1 = cc in absurd (omega arith))
+    (λ (t : eqb n 0 ≡ false). let k : Some b ≡ Some e = rw t at h in cc)
+    (cases-bool (eqb n 0))
 
 pub never-none : (n : ℕ) (e : Band) → 0 < n → None ≡ cond (eqb n 0) None (Some e) → ⊥
 never-none n e p h = let k : None ≡ Some e = rw (ne-eqb n 0 (λ z. omega arith)) at h in let z : _≡_ {A = ℕ} 0 1 = cc in omega arith
 
 -- What `CutSet::new` answers where its bands are a cut set.
 pub made : (r : Option CutSet) (t : BandTable) (n : ℕ) → Cases r (Cuts n (t .places) → ⊥) (λ s. Cuts n (t .places) × ((s .classes ≡ n) × (s .bands ≡ t))) → Cuts n (t .places)
-  → mapped bandsOf r ≡ Some (take n (t .places))
+    → mapped bandsOf r ≡ Some (take n (t .places))
 made None t n h c = absurd (h c)
 made (Some s) t n h c = ap (λ (bs : List Band). Some bs) (ap (λ k. take k (s .bands .places)) (h .1 .0) ∙ ap (λ u. take n (u .places)) (h .1 .1))

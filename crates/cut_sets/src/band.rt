@@ -23,5 +23,10 @@ pub fn mean_band(tally: &Tally, low: u8, high: u8) -> Option<Band>
 {
     let sums = tally.sums(low, high);
     let level = sums.nearest_level()?;
-    Some(Band { low, high, level, count: sums.count() })
+    Some(Band {
+        low,
+        high,
+        level,
+        count: sums.count(),
+    })
 }

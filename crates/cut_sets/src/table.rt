@@ -15,7 +15,14 @@ impl BandTable {
     pub fn new() -> BandTable
         ensures { λ r. ⌜ r .places ≡ replicate 8 noBand ⌝ }
     {
-        BandTable { places: [Band { low: 0, high: 0, level: 0, count: 0 }; 8] }
+        BandTable {
+            places: [Band {
+                low: 0,
+                high: 0,
+                level: 0,
+                count: 0,
+            }; 8],
+        }
     }
 
     // Fills one place; there is none from the eighth on, counted from 0.

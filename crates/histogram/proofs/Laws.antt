@@ -46,15 +46,15 @@ sum-one f h a = omega (arith, sum-suc f h a a (omega arith), sum-none f h a a (o
 pub sum-join : (f : ℕ → ℕ) (h : List ℕ) (a b c : ℕ) → a ≤ b → b ≤ c → sumOf f h a c ≡ sumOf f h a b + sumOf f h b c
 sum-join f h a b c l m =
     climb (λ z. sumOf f h a z ≡ sumOf f h a b + sumOf f h b z) b (omega (arith, sum-none f h b b (omega arith)))
-      (λ z k ih. omega (arith, sum-suc f h a z (omega arith), sum-suc f h b z k, ih)) c m
+    (λ z k ih. omega (arith, sum-suc f h a z (omega arith), sum-suc f h b z k, ih)) c m
 
 pub sum-same : (f g : ℕ → ℕ) (h k : List ℕ) (a z : ℕ) → ((j : ℕ) → a ≤ j → j < z → getD h j 0 * f j ≡ getD k j 0 * g j) → sumOf f h a z ≡ sumOf g k a z
 sum-same f g h k a z e =
     ⊎-elim
-      (λ (l : a ≤ z). climb (λ y. y ≤ z → sumOf f h a y ≡ sumOf g k a y) a (λ _. omega (arith, sum-none f h a a (omega arith), sum-none g k a a (omega arith)))
-        (λ y m ih n. omega (arith, sum-suc f h a y m, sum-suc g k a y m, ih (omega arith), e y m (omega arith))) z l (omega arith))
-      (λ (l : z ≤ a). omega (arith, sum-none f h a z l, sum-none g k a z l))
-      (either a z)
+    (λ (l : a ≤ z). climb (λ y. y ≤ z → sumOf f h a y ≡ sumOf g k a y) a (λ _. omega (arith, sum-none f h a a (omega arith), sum-none g k a a (omega arith)))
+    (λ y m ih n. omega (arith, sum-suc f h a y m, sum-suc g k a y m, ih (omega arith), e y m (omega arith))) z l (omega arith))
+    (λ (l : z ≤ a). omega (arith, sum-none f h a z l, sum-none g k a z l))
+    (either a z)
   where
     either : (m n : ℕ) → (m ≤ n) ⊎ (n ≤ m)
     either m n = ⊎-elim (λ (x : m < n). inl (omega arith)) (λ (x : n ≤ m). inr x) (cases-lt m n)
@@ -63,20 +63,20 @@ sum-same f g h k a z e =
 pub sum-le : (f g : ℕ → ℕ) (h : List ℕ) (a z : ℕ) → a ≤ z → ((j : ℕ) → a ≤ j → j < z → 0 < getD h j 0 → f j ≤ g j) → sumOf f h a z ≤ sumOf g h a z
 sum-le f g h a z l p =
     climb (λ y. y ≤ z → sumOf f h a y ≤ sumOf g h a y) a (λ _. omega (arith, sum-none f h a a (omega arith), sum-none g h a a (omega arith)))
-      (λ y m ih n.
-        let t : getD h y 0 * f y ≤ getD h y 0 * g y = elim (eq-zero-or-pos (getD h y 0)) [
-          | inl e ↦ le-of-eq (ap (λ x. x * f y) e ∙ zero-mul (f y) ∙ sym (ap (λ x. x * g y) e ∙ zero-mul (g y)))
-          | inr o ↦ mul-le-mul-left (getD h y 0) (p y m (omega arith) o)
-        ] in
-        omega (arith, sum-suc f h a y m, sum-suc g h a y m, ih (omega arith), t)) z l (omega arith)
+    (λ y m ih n.
+    let t : getD h y 0 * f y ≤ getD h y 0 * g y = elim (eq-zero-or-pos (getD h y 0)) [
+      | inl e ↦ le-of-eq (ap (λ x. x * f y) e ∙ zero-mul (f y) ∙ sym (ap (λ x. x * g y) e ∙ zero-mul (g y)))
+      | inr o ↦ mul-le-mul-left (getD h y 0) (p y m (omega arith) o)
+    ] in
+    omega (arith, sum-suc f h a y m, sum-suc g h a y m, ih (omega arith), t)) z l (omega arith)
 
 pub sum-const : (c : ℕ) (h : List ℕ) (a z : ℕ) → a ≤ z → sumOf (λ j. c) h a z ≡ c * sumOf one h a z
 sum-const c h a z l =
     climb (λ y. sumOf (λ j. c) h a y ≡ c * sumOf one h a y) a (sum-none (λ j. c) h a a (omega arith) ∙ sym (ap (λ n. c * n) (sum-none one h a a (omega arith)) ∙ mul-zero c))
-      (λ y m ih.
-        let u = ap (λ n. c * n) (sum-suc one h a y m) ∙ mul-add c (sumOf one h a y) (getD h y 0 * 1) in
-        let v : c * (getD h y 0 * 1) ≡ getD h y 0 * c = ap (λ n. c * n) (mul-one (getD h y 0)) ∙ mul-comm c (getD h y 0) in
-        omega (arith, sum-suc (λ j. c) h a y m, u, v, ih)) z l
+    (λ y m ih.
+    let u = ap (λ n. c * n) (sum-suc one h a y m) ∙ mul-add c (sumOf one h a y) (getD h y 0 * 1) in
+    let v : c * (getD h y 0 * 1) ≡ getD h y 0 * c = ap (λ n. c * n) (mul-one (getD h y 0)) ∙ mul-comm c (getD h y 0) in
+    omega (arith, sum-suc (λ j. c) h a y m, u, v, ih)) z l
 
 -- The pixels of one level are among those of a band that holds it.
 pub level-le : (h : List ℕ) (a z j : ℕ) → a ≤ j → j < z → getD h j 0 ≤ sumOf one h a z
@@ -91,9 +91,9 @@ pub sum-empty : (f : ℕ → ℕ) (h : List ℕ) (a z : ℕ) → ((j : ℕ) → 
 sum-empty f h a z e =
     sum-same f (λ j. 0) h h a z (λ j l m. ap (λ n. n * f j) (e j l m) ∙ zero-mul (f j) ∙ sym (mul-zero (getD h j 0)))
     ∙ ⊎-elim
-        (λ (l : a ≤ z). sum-const 0 h a z l ∙ zero-mul (sumOf one h a z))
-        (λ (l : z < a). sum-none (λ j. 0) h a z (omega arith))
-        (cases-le a z)
+    (λ (l : a ≤ z). sum-const 0 h a z l ∙ zero-mul (sumOf one h a z))
+    (λ (l : z < a). sum-none (λ j. 0) h a z (omega arith))
+    (cases-le a z)
   where
     cases-le : (m n : ℕ) → (m ≤ n) ⊎ (n < m)
     cases-le m n = ⊎-elim (λ (x : n < m). inr x) (λ (x : m ≤ n). inl x) (cases-lt n m)
@@ -111,18 +111,18 @@ levels-low h a z l =
 pub sum-added : (f : ℕ → ℕ) (h k : List ℕ) → sumOf f (added h k) 0 256 ≡ sumOf f h 0 256 + sumOf f k 0 256
 sum-added f h k =
     climb (λ y. y ≤ 256 → sumOf f (added h k) 0 y ≡ sumOf f h 0 y + sumOf f k 0 y) 0
-      (λ _. omega (arith, sum-none f (added h k) 0 0 (omega arith), sum-none f h 0 0 (omega arith), sum-none f k 0 0 (omega arith)))
-      (λ y m ih n.
-        let e = ap (λ x. x * f y) (each-at (λ j. getD h j 0 + getD k j 0) y (omega arith)) ∙ add-mul (getD h y 0) (getD k y 0) (f y) in
-        omega (arith, sum-suc f (added h k) 0 y m, sum-suc f h 0 y m, sum-suc f k 0 y m, ih (omega arith), e)) 256 (omega arith) (omega arith)
+    (λ _. omega (arith, sum-none f (added h k) 0 0 (omega arith), sum-none f h 0 0 (omega arith), sum-none f k 0 0 (omega arith)))
+    (λ y m ih n.
+    let e = ap (λ x. x * f y) (each-at (λ j. getD h j 0 + getD k j 0) y (omega arith)) ∙ add-mul (getD h y 0) (getD k y 0) (f y) in
+    omega (arith, sum-suc f (added h k) 0 y m, sum-suc f h 0 y m, sum-suc f k 0 y m, ih (omega arith), e)) 256 (omega arith) (omega arith)
 
 -- No count passes the number of pixels.
 pub count-le : (h : List ℕ) (k : ℕ) → length h ≡ 256 → getD h k 0 ≤ pixels h
 count-le h k e =
     ⊎-elim
-      (λ (l : k < 256). level-le h 0 256 k (omega arith) l)
-      (λ (l : 256 ≤ k). rw (getD-past h k 0 (omega (arith, e))) (omega arith))
-      (cases-lt k 256)
+    (λ (l : k < 256). level-le h 0 256 k (omega arith) l)
+    (λ (l : 256 ≤ k). rw (getD-past h k 0 (omega (arith, e))) (omega arith))
+    (cases-lt k 256)
 
 -- What a band of levels holds at most.
 pub record Room (h : List ℕ) (a z : ℕ) : Type 0 where
@@ -132,22 +132,22 @@ pub record Room (h : List ℕ) (a z : ℕ) : Type 0 where
 pub room : (h : List ℕ) (a z : ℕ) → z ≤ 256 → Room h a z
 room h a z l =
     ⊎-elim
-      (λ (m : a < z). record { few = band-le one h 0 a z 256 (omega arith) (omega arith) l; dim = levels-high h a z 255 (omega arith) (omega arith) })
-      (λ (m : z ≤ a). record { few = omega (arith, sum-none one h a z m); dim = omega (arith, sum-none level h a z m) })
-      (cases-lt a z)
+    (λ (m : a < z). record { few = band-le one h 0 a z 256 (omega arith) (omega arith) l; dim = levels-high h a z 255 (omega arith) (omega arith) })
+    (λ (m : z ≤ a). record { few = omega (arith, sum-none one h a z m); dim = omega (arith, sum-none level h a z m) })
+    (cases-lt a z)
 
 -- A loop over the levels from a to b has ended at z, or had no turn.
 pub sum-ended : (f : ℕ → ℕ) (h : List ℕ) (a b z : ℕ) → a ≤ z → b + 1 ≤ z → z ≤ max a (b + 1) → sumOf f h a z ≡ sumOf f h a (suc b)
 sum-ended f h a b z l m n =
     ⊎-elim
-      (λ (k : a < suc (suc b)). let e : z ≡ suc b = omega arith in ap (sumOf f h a) e)
-      (λ (k : suc (suc b) ≤ a). sum-none f h a z (omega arith) ∙ sym (sum-none f h a (suc b) (omega arith)))
-      (cases-lt a (suc (suc b)))
+    (λ (k : a < suc (suc b)). let e : z ≡ suc b = omega arith in ap (sumOf f h a) e)
+    (λ (k : suc (suc b) ≤ a). sum-none f h a z (omega arith) ∙ sym (sum-none f h a (suc b) (omega arith)))
+    (cases-lt a (suc (suc b)))
 
 -- Where f is at most m at each level, the total is at most m a pixel.
 pub sum-most : (f : ℕ → ℕ) (h : List ℕ) (m a z : ℕ) → ((j : ℕ) → j < z → f j ≤ m) → sumOf f h a z ≤ m * sumOf one h a z
 sum-most f h m a z p =
     ⊎-elim
-      (λ (l : a < z). omega (arith, sum-le f (λ j. m) h a z (omega arith) (λ j x y o. p j y), sum-const m h a z (omega arith)))
-      (λ (l : z ≤ a). omega (arith, sum-none f h a z l))
-      (cases-lt a z)
+    (λ (l : a < z). omega (arith, sum-le f (λ j. m) h a z (omega arith) (λ j x y o. p j y), sum-const m h a z (omega arith)))
+    (λ (l : z ≤ a). omega (arith, sum-none f h a z l))
+    (cases-lt a z)

@@ -16,9 +16,10 @@ pub part-none : (f : ℕ → ℕ) (xs : List ℕ) → Part f xs xs 0
 part-none f xs = ((λ k h. absurd (omega arith)), (λ k h. refl))
 
 pub part-more : (f : ℕ → ℕ) (old new : List ℕ) (i v : ℕ) → i < length new → v ≡ f i → Part f old new i → Part f old (set new i v) (i + 1)
-part-more f old new i v h e p =
-    ( (λ k l. ⊎-elim
-        (λ (q : k ≡ i). rw (q, getD-set-same) e)
-        (λ (q : k ≢ i). rw getD-set-other (p .0 k (omega arith)))
-        (cases-eq k i))
-    , (λ k l. let q : k ≢ i = omega arith in rw getD-set-other (p .1 k (omega arith))) )
+part-more f old new i v h e p = (
+  (λ k l. ⊎-elim
+      (λ (q : k ≡ i). rw (q, getD-set-same) e)
+      (λ (q : k ≢ i). rw getD-set-other (p .0 k (omega arith)))
+      (cases-eq k i)),
+  (λ k l. let q : k ≢ i = omega arith in rw getD-set-other (p .1 k (omega arith))),
+)

@@ -45,7 +45,7 @@ last-push os v = getD-push os v 0 (length (os ++ v ∷ []) - 1) (omega (arith, l
 
 -- One occupied level more.
 pub extent-push : (os : List ℕ) (v : ℕ) (e r : Extent) → e ≡ extentBy os → r .occupied ≡ e .occupied + 1 → (e .occupied ≡ 0 → r .lowest ≡ v) → (0 < e .occupied → r .lowest ≡ e .lowest) → r .highest ≡ v
-  → r ≡ extentBy (os ++ v ∷ [])
+    → r ≡ extentBy (os ++ v ∷ [])
 extent-push os v e r is count first later last =
     same-extent r (extentBy (os ++ v ∷ [])) (count ∙ ap (λ x. x .occupied + 1) is ∙ sym (length-push os v)) (low os is) (last ∙ sym (last-push os v))
   where
@@ -74,22 +74,38 @@ Known h i (x ∷ xs) = Spanned h i (x ∷ xs)
 
 first-of : (h : List ℕ) (i : ℕ) (os : List ℕ) → 0 < getD h i 0 → Known h i os → Spanned h (i + 1) (os ++ i ∷ [])
 first-of h i [] o k = record {
-  low = omega arith; high = omega arith; order = omega arith; apart = λ n. absurd (omega arith);
-  at-low = o; at-high = o; none-below = k; none-above = λ j l m. absurd (omega arith);
+  low = omega arith;
+  high = omega arith;
+  order = omega arith;
+  apart = λ n. absurd (omega arith);
+  at-low = o;
+  at-high = o;
+  none-below = k;
+  none-above = λ j l m. absurd (omega arith);
 }
 first-of h i (x ∷ xs) o k =
     let e = last-push (x ∷ xs) i in
     let l = k .low in
     record {
-      low = omega arith; high = omega (arith, e); order = omega (arith, e); apart = λ n. omega (arith, e);
-      at-low = k .at-low; at-high = subst (λ v. 0 < getD h v 0) (sym e) o;
-      none-below = k .none-below; none-above = λ j l m. absurd (omega (arith, e));
+      low = omega arith;
+      high = omega (arith, e);
+      order = omega (arith, e);
+      apart = λ n. omega (arith, e);
+      at-low = k .at-low;
+      at-high = subst (λ v. 0 < getD h v 0) (sym e) o;
+      none-below = k .none-below;
+      none-above = λ j l m. absurd (omega (arith, e));
     }
 
 pass : (h : List ℕ) (i : ℕ) (os : List ℕ) → getD h i 0 ≡ 0 → Known h i os → Known h (i + 1) os
 pass h i [] o k = λ j l. ⊎-elim (λ (e : j ≡ i). ap (λ n. getD h n 0) e ∙ o) (λ (d : j ≡ i → ⊥). k j (omega arith)) (cases-eq j i)
 pass h i (x ∷ xs) o k = record {
-  low = omega (arith, k .low); high = omega (arith, k .high); order = k .order; apart = k .apart; at-low = k .at-low; at-high = k .at-high;
+  low = omega (arith, k .low);
+  high = omega (arith, k .high);
+  order = k .order;
+  apart = k .apart;
+  at-low = k .at-low;
+  at-high = k .at-high;
   none-below = k .none-below;
   none-above = λ j l m. ⊎-elim (λ (e : j ≡ i). ap (λ n. getD h n 0) e ∙ o) (λ (d : j ≡ i → ⊥). k .none-above j l (omega arith)) (cases-eq j i);
 }
@@ -103,10 +119,10 @@ known h zero = λ j l. absurd (omega arith)
 known h (suc i) =
     let k = known h i in
     subst (λ n. Known h n (occupiedTo h n)) (add-one i)
-      (⊎-elim
-        (λ (o : 0 < getD h i 0). subst (Known h (i + 1)) (sym (grown-yes h i o)) (known-push h i (occupiedTo h i) (first-of h i (occupiedTo h i) o k)))
-        (λ (e : getD h i 0 ≤ 0). let z : getD h i 0 ≡ 0 = omega arith in subst (Known h (i + 1)) (sym (grown-no h i z)) (pass h i (occupiedTo h i) z k))
-        (cases-lt 0 (getD h i 0)))
+    (⊎-elim
+    (λ (o : 0 < getD h i 0). subst (Known h (i + 1)) (sym (grown-yes h i o)) (known-push h i (occupiedTo h i) (first-of h i (occupiedTo h i) o k)))
+    (λ (e : getD h i 0 ≤ 0). let z : getD h i 0 ≡ 0 = omega arith in subst (Known h (i + 1)) (sym (grown-no h i z)) (pass h i (occupiedTo h i) z k))
+    (cases-lt 0 (getD h i 0)))
 
 pub spanned : (h : List ℕ) → 0 < length (occupied h) → Spanned h 256 (occupied h)
 spanned h p = by (occupied h) p (subst (Known h 256) (occupied-is h 256 refl) (known h 256))

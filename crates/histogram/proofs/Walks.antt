@@ -44,19 +44,19 @@ rows-done p s y n e q = rw (e, q) (mul-comm (p .rows) (p .columns) ∙ sym (s .w
 counted-push : (xs : List ℕ) (v : ℕ) → v < 256 → set (histogramOf xs) v (getD (histogramOf xs) v 0 + 1) ≡ histogramOf (xs ++ v ∷ [])
 counted-push xs v h =
     ext-getD 0 _ _ (length-set (histogramOf xs) v _ ∙ each-long (count xs) ∙ sym (each-long (count (xs ++ v ∷ []))))
-      (λ k l.
-        let l′ : k < 256 = omega (arith, length-set (histogramOf xs) v (getD (histogramOf xs) v 0 + 1), each-long (count xs)) in
-        let w : v < length (histogramOf xs) = omega (arith, each-long (count xs)) in
-        let t = each-at (count (xs ++ v ∷ [])) k l′ in
-        let p = sumBy-push (λ u. cond (eqb u k) 1 0) xs v in
-        ⊎-elim
-          (λ (q : k ≡ v).
-            let z = cond-true {A = ℕ} (eqb v k) 1 0 (eq-eqb v k (sym q)) in
-            rw (q, getD-set-same) (omega (arith, each-at (count xs) v h, subst (λ m. getD (histogramOf (xs ++ v ∷ [])) m 0 ≡ count (xs ++ v ∷ []) m) q t, subst (λ m. count (xs ++ v ∷ []) m ≡ count xs m + cond (eqb v m) 1 0) q p, subst (λ m. _≡_ {A = ℕ} (cond (eqb v m) 1 0) 1) q z)))
-          (λ (q : k ≢ v).
-            let z = cond-false {A = ℕ} (eqb v k) 1 0 (ne-eqb v k (λ e. q (sym e))) in
-            rw getD-set-other (omega (arith, each-at (count xs) k l′, t, p, z)))
-          (cases-eq k v))
+    (λ k l.
+    let l′ : k < 256 = omega (arith, length-set (histogramOf xs) v (getD (histogramOf xs) v 0 + 1), each-long (count xs)) in
+    let w : v < length (histogramOf xs) = omega (arith, each-long (count xs)) in
+    let t = each-at (count (xs ++ v ∷ [])) k l′ in
+    let p = sumBy-push (λ u. cond (eqb u k) 1 0) xs v in
+    ⊎-elim
+    (λ (q : k ≡ v).
+    let z = cond-true {A = ℕ} (eqb v k) 1 0 (eq-eqb v k (sym q)) in
+    rw (q, getD-set-same) (omega (arith, each-at (count xs) v h, subst (λ m. getD (histogramOf (xs ++ v ∷ [])) m 0 ≡ count (xs ++ v ∷ []) m) q t, subst (λ m. count (xs ++ v ∷ []) m ≡ count xs m + cond (eqb v m) 1 0) q p, subst (λ m. _≡_ {A = ℕ} (cond (eqb v m) 1 0) 1) q z)))
+    (λ (q : k ≢ v).
+    let z = cond-false {A = ℕ} (eqb v k) 1 0 (ne-eqb v k (λ e. q (sym e))) in
+    rw getD-set-other (omega (arith, each-at (count xs) k l′, t, p, z)))
+    (cases-eq k v))
 
 pub counted-none : (n : ℕ) (xs : List ℕ) → zeros ≡ histogramOf (take (0 * n) xs)
 unfolding zeros each
@@ -64,7 +64,7 @@ counted-none n xs = rw zero-mul refl
 
 -- One pixel of a walk; h is the histogram before it and m after.
 pub counted-more : (p : Raster) → Sound p → (n x y v : ℕ) → n ≡ p .columns → Some v ≡ levelAt p x y → (h m : List ℕ)
-  → h ≡ histogramOf (take (y * n + x) (p .levels)) → m ≡ set h v (getD h v 0 + 1) → m ≡ histogramOf (take (y * n + (x + 1)) (p .levels))
+    → h ≡ histogramOf (take (y * n + x) (p .levels)) → m ≡ set h v (getD h v 0 + 1) → m ≡ histogramOf (take (y * n + (x + 1)) (p .levels))
 counted-more p s n x y v e f h m i j =
     let a = seen p s n x y v e f in
     let xs = p .levels in

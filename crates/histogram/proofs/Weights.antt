@@ -20,13 +20,21 @@ use Rattle.histogram.proofs.Laws.{sum-suc, sum-join, sum-same, sum-empty}
 
 -- One pixel of level x more.
 one-more : (f : ℕ → ℕ) (h k : List ℕ) (x z : ℕ) → x < z → ((j : ℕ) → j < z → (j ≡ x → ⊥) → getD k j 0 ≡ getD h j 0) → getD k x 0 ≡ 1 + getD h x 0
-  → sumOf f k 0 z ≡ f x + sumOf f h 0 z
+    → sumOf f k 0 z ≡ f x + sumOf f h 0 z
 one-more f h k x z l other here =
     let low : sumOf f k 0 x ≡ sumOf f h 0 x = sum-same f f k h 0 x (λ j a b. ap (λ n. n * f j) (other j (omega arith) (λ e. omega arith))) in
     let high : sumOf f k (suc x) z ≡ sumOf f h (suc x) z = sum-same f f k h (suc x) z (λ j a b. ap (λ n. n * f j) (other j b (λ e. omega arith))) in
     let at = ap (λ n. n * f x) here ∙ add-mul 1 (getD h x 0) (f x) ∙ ap (λ n. n + getD h x 0 * f x) (one-mul (f x)) in
-    omega (arith, sum-join f k 0 (suc x) z (omega arith) l, sum-join f h 0 (suc x) z (omega arith) l,
-      sum-suc f k 0 x (omega arith), sum-suc f h 0 x (omega arith), low, high, at)
+    omega (
+      arith,
+      sum-join f k 0 (suc x) z (omega arith) l,
+      sum-join f h 0 (suc x) z (omega arith) l,
+      sum-suc f k 0 x (omega arith),
+      sum-suc f h 0 x (omega arith),
+      low,
+      high,
+      at,
+    )
 
 count-same : (x : ℕ) (xs : List ℕ) → count (x ∷ xs) x ≡ 1 + count xs x
 count-same x xs = sumBy-cons (λ v. cond (eqb v x) 1 0) x xs ∙ ap (λ n. n + count xs x) (cond-true {A = ℕ} (eqb x x) 1 0 (eq-eqb x x refl))
@@ -41,8 +49,8 @@ weighed f (x ∷ xs) a =
     let more : (j : ℕ) → j < 256 → getD (histogramOf (x ∷ xs)) j 0 ≡ count (x ∷ xs) j = λ j l. each-at (λ i. count (x ∷ xs) i) j l in
     let low : x < 256 = omega (arith, a .0) in
     one-more f (histogramOf xs) (histogramOf (x ∷ xs)) x 256 low
-      (λ j l d. more j l ∙ count-other x j xs d ∙ sym (at j l))
-      (more x low ∙ count-same x xs ∙ ap (λ n. 1 + n) (sym (at x low)))
+    (λ j l d. more j l ∙ count-other x j xs d ∙ sym (at j l))
+    (more x low ∙ count-same x xs ∙ ap (λ n. 1 + n) (sym (at x low)))
     ∙ omega (arith, weighed f xs (a .1), sumBy-cons f x xs)
 
 ones : (xs : List ℕ) → sumBy one xs ≡ length xs

@@ -51,7 +51,10 @@ impl Tally {
     pub fn new() -> Tally
         ensures { λ r. ⌜ countsOf r ≡ zeros ⌝ }
     {
-        Tally { histogram: Histogram::new(), total: 0 }
+        Tally {
+            histogram: Histogram::new(),
+            total: 0,
+        }
     }
 
     // The pixels of a picture; none where it has more than 65,536.
@@ -62,7 +65,10 @@ impl Tally {
         if size > MOST {
             return None;
         }
-        Some(Tally { histogram: Histogram::of_picture(picture), total: size as u32 })
+        Some(Tally {
+            histogram: Histogram::of_picture(picture),
+            total: size as u32,
+        })
     }
 
     // The pixels of another tally on top, level by level; refused, and nothing changed, where they are too many.

@@ -30,8 +30,16 @@ impl Extent {
         ensures later { λ r. ⌜ (0 < self .occupied → r .lowest ≡ self .lowest) ⌝ }
         ensures last { λ r. ⌜ r .highest ≡ level ⌝ }
     {
-        let lowest = if self.occupied == 0 { level } else { self.lowest };
-        Extent { occupied: self.occupied + 1, lowest, highest: level }
+        let lowest = if self.occupied == 0 {
+            level
+        } else {
+            self.lowest
+        };
+        Extent {
+            occupied: self.occupied + 1,
+            lowest,
+            highest: level,
+        }
     }
 }
 
@@ -77,7 +85,11 @@ impl Histogram {
     pub fn extent(&self) -> Extent
         ensures { λ r. ⌜ r ≡ extentOf (now (self .entry) .counts) ⌝ }
     {
-        let mut extent = Extent { occupied: 0, lowest: 0, highest: 0 };
+        let mut extent = Extent {
+            occupied: 0,
+            lowest: 0,
+            highest: 0,
+        };
         for (level, count) in self.counts.iter().enumerate() {
             if *count > 0 {
                 extent = extent.raised(level as u8);

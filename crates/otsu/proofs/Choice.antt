@@ -34,7 +34,7 @@ otsu-first h lo = record {
 pub otsu-takes : (h : List ℕ) (lo up k b : ℕ) → Range h lo up → lo < k → k < up → Otsu h lo k b → top h b * bottom h k < top h k * bottom h b → Otsu h lo (suc k) k
 otsu-takes h lo up k b r a u o t =
     let before : (j : ℕ) → lo ≤ j → j < k → top h j * bottom h k < top h k * bottom h j =
-        λ j x y. through-lt (top h j) (top h b) (top h k) (bottom h j) (bottom h b) (bottom h k) (bottom-pos h lo up j r x (omega arith)) (o .largest j x y) t in
+    λ j x y. through-lt (top h j) (top h b) (top h k) (bottom h j) (bottom h b) (bottom h k) (bottom-pos h lo up j r x (omega arith)) (o .largest j x y) t in
     record {
       from = omega arith;
       under = omega arith;
@@ -64,7 +64,7 @@ otsu-only h lo up j k p q =
 
 -- Of the thresholds from a to below z: the choice of the definition, which looks at the lowest last.
 otsu-before : (h : List ℕ) (lo up a z m : ℕ) → Range h lo up → lo ≤ a → z ≤ up → Otsu h (suc a) z m
-  → Otsu h a z (cond (above h m a) m a)
+    → Otsu h a z (cond (above h m a) m a)
 otsu-before h lo up a z m r l u o =
     elim (cases-bool (above h m a)) [
       | inl t ↦ (let g = ltb-true (top h a * bottom h m) (top h m * bottom h a) t in
@@ -81,7 +81,8 @@ otsu-before h lo up a z m r l u o =
             under = omega (arith, o .from, o .under);
             largest = λ j x y. elim (cases-lt a j) [
               | inl i ↦ through-le (top h j) (top h m) (top h a) (bottom h j) (bottom h m) (bottom h a) p (o .largest j i y) g
-              | inr i ↦ (let e : j ≡ a = omega arith in le-of-eq (ap (λ n. top h n * bottom h a) e ∙ ap (λ n. top h a * bottom h n) (sym e))) ];
+              | inr i ↦ (let e : j ≡ a = omega arith in le-of-eq (ap (λ n. top h n * bottom h a) e ∙ ap (λ n. top h a * bottom h n) (sym e)))
+            ];
             first = λ j x y. absurd (omega arith);
           }))
     ]
@@ -93,8 +94,8 @@ first-largest h lo up r (suc n) a l u =
     let e : a + 1 + suc n ≡ a + suc (suc n) = omega arith in
     let ih = first-largest h lo up r n (a + 1) (omega arith) (omega arith) in
     otsu-before h lo up a (a + suc (suc n)) _ r l (omega arith)
-      (subst (λ b. Otsu h b (a + suc (suc n)) (firstLargest h (a + 1) (counting (a + 1 + 1) n))) (add-one a)
-        (subst (λ z. Otsu h (a + 1) z (firstLargest h (a + 1) (counting (a + 1 + 1) n))) e ih))
+    (subst (λ b. Otsu h b (a + suc (suc n)) (firstLargest h (a + 1) (counting (a + 1 + 1) n))) (add-one a)
+    (subst (λ z. Otsu h (a + 1) z (firstLargest h (a + 1) (counting (a + 1 + 1) n))) e ih))
 
 pub otsu-level : (h : List ℕ) → 2 ≤ length (occupied h) → Otsu h (lowest h) (highest h) (otsuLevel h)
 otsu-level h l =
@@ -126,7 +127,13 @@ module _ (h : List ℕ) (lo up n s : ℕ) (r : Range h lo up) (all : n ≡ pixel
       let p = c .rate-low in
       let q = c .rate-high in
       record {
-        count = i; sum = j; high = omega arith; high-sum = omega arith; low = omega arith; low-sum = omega arith; small = omega arith;
+        count = i;
+        sum = j;
+        high = omega arith;
+        high-sum = omega arith;
+        low = omega arith;
+        low-sum = omega arith;
+        small = omega arith;
         fits = (omega arith, (omega arith, (omega arith, (omega arith, omega arith))));
       }
 
@@ -139,8 +146,8 @@ module _ (h : List ℕ) (lo up n s : ℕ) (r : Range h lo up) (all : n ≡ pixel
   pub split-next : (k x y here : ℕ) → lo ≤ k → k < up → x ≡ sumOf one h 0 k → y ≡ sumOf level h 0 k → here ≡ getD h k 0 → Split h k n s (x + here) (y + here * k)
   split-next k x y here a b i j e =
       split k (x + here) (y + here * k) a b
-        (omega (arith, i, e, sum-suc one h 0 k (omega arith), mul-one (getD h k 0)))
-        (omega (arith, j, ap (λ (m : ℕ). m * k) e, sum-suc level h 0 k (omega arith)))
+      (omega (arith, i, e, sum-suc one h 0 k (omega arith), mul-one (getD h k 0)))
+      (omega (arith, j, ap (λ (m : ℕ). m * k) e, sum-suc level h 0 k (omega arith)))
 
 pub split-top : (h : List ℕ) (k n s x y num : ℕ) → Split h k n s x y → num ≡ y * y * (n - x) + (s - y) * (s - y) * x → num ≡ top h k
 split-top h k n s x y num c f = let u = c .high in let v = c .high-sum in let d = c .count in let e = c .sum in cc
@@ -149,7 +156,7 @@ pub split-bottom : (h : List ℕ) (k n s x y den : ℕ) → Split h k n s x y �
 split-bottom h k n s x y den c f = let u = c .high in let d = c .count in cc
 
 pub step-takes : (h : List ℕ) (lo up k b mn md nn nd : ℕ) → Range h lo up → lo < k → k < up → Otsu h lo k b → mn ≡ top h b → md ≡ bottom h b → nn ≡ top h k → nd ≡ bottom h k
-  → ltb (mn * nd) (nn * md) ≡ true → Otsu h lo (k + 1) k
+    → ltb (mn * nd) (nn * md) ≡ true → Otsu h lo (k + 1) k
 step-takes h lo up k b mn md nn nd r a u o e1 e2 e3 e4 t =
     let l = ltb-true (mn * nd) (nn * md) t in
     let x : mn * nd ≡ top h b * bottom h k = cc in
@@ -157,7 +164,7 @@ step-takes h lo up k b mn md nn nd r a u o e1 e2 e3 e4 t =
     subst (λ z. Otsu h lo z k) (sym (add-one k)) (otsu-takes h lo up k b r a u o (omega arith))
 
 pub step-keeps : (h : List ℕ) (lo k b mn md nn nd : ℕ) → Otsu h lo k b → mn ≡ top h b → md ≡ bottom h b → nn ≡ top h k → nd ≡ bottom h k
-  → ltb (mn * nd) (nn * md) ≡ false → Otsu h lo (k + 1) b
+    → ltb (mn * nd) (nn * md) ≡ false → Otsu h lo (k + 1) b
 step-keeps h lo k b mn md nn nd o e1 e2 e3 e4 t =
     let l = ltb-false (mn * nd) (nn * md) t in
     let x : mn * nd ≡ top h b * bottom h k = cc in

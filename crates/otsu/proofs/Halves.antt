@@ -28,9 +28,9 @@ pub record Found (h : List ℕ) (k : ℕ) : Type 0 where
 pub some-level : (h : List ℕ) (k : ℕ) → Some k ≡ cond (ltb (length (occupied h)) 2) None (Some (otsuLevel h)) → Found h k
 some-level h k e =
     ⊎-elim
-      (λ (t : ltb (length (occupied h)) 2 ≡ true). let j : _≡_ {A = Option ℕ} (Some k) None = rw t at e in let z : _≡_ {A = ℕ} 0 1 = cc in absurd (omega arith))
-      (λ (t : ltb (length (occupied h)) 2 ≡ false). let j : Some k ≡ Some (otsuLevel h) = rw t at e in record { two = ltb-false (length (occupied h)) 2 t; is = cc })
-      (cases-bool (ltb (length (occupied h)) 2))
+    (λ (t : ltb (length (occupied h)) 2 ≡ true). let j : _≡_ {A = Option ℕ} (Some k) None = rw t at e in let z : _≡_ {A = ℕ} 0 1 = cc in absurd (omega arith))
+    (λ (t : ltb (length (occupied h)) 2 ≡ false). let j : Some k ≡ Some (otsuLevel h) = rw t at e in record { two = ltb-false (length (occupied h)) 2 t; is = cc })
+    (cases-bool (ltb (length (occupied h)) 2))
 
 module _ (h : List ℕ) (two : 2 ≤ length (occupied h)) where
   pub low-some : 0 < countOf h (lowest h) (otsuLevel h)

@@ -49,7 +49,10 @@ fn criterion(n0: u64, s0: u64, n1: u64, s1: u64) -> Ratio
     ensures den { λ r. ⌜ r .den ≡ n0 * n1 ⌝ }
     ensures small { λ r. ⌜ 0 < r .den ⌝ ∗ ⌜ r .den ≤ 2 ^ 30 ⌝ }
 {
-    Ratio { num: s0 * s0 * n1 + s1 * s1 * n0, den: n0 * n1 }
+    Ratio {
+        num: s0 * s0 * n1 + s1 * s1 * n0,
+        den: n0 * n1,
+    }
 }
 
 // The first level from lowest to below highest whose criterion is largest; n and s are the count and the level sum of all pixels.
@@ -87,7 +90,13 @@ pub fn threshold(tally: &Tally) -> Option<u8>
         return None;
     }
     let all = tally.sums(0, 255);
-    Some(first_largest(&histogram, extent.lowest, extent.highest, all.count() as u64, all.levels() as u64))
+    Some(first_largest(
+        &histogram,
+        extent.lowest,
+        extent.highest,
+        all.count() as u64,
+        all.levels() as u64,
+    ))
 }
 
 // The Otsu cut of the pixels in hand; none where fewer than two levels are occupied.

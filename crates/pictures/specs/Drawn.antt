@@ -19,9 +19,9 @@ drawn c r g = raster c r (map (λ i. g (i % c) (i / c)) (counting 0 (c * r)))
 low-counted : (f : ℕ → ℕ) (n : ℕ) → ((i : ℕ) → f i ≤ 255) → (i : ℕ) → getD (map f (counting 0 n)) i 0 ≤ 255
 low-counted f n h i =
     ⊎-elim
-      (λ (l : i < n). rw (getD-map-counting f 0 n i i 0 l (omega arith)) (h i))
-      (λ (l : n ≤ i). let q : length (map f (counting 0 n)) ≤ i = rw length-map-counting l in rw getD-past (omega arith))
-      (cases-lt i n)
+    (λ (l : i < n). rw (getD-map-counting f 0 n i i 0 l (omega arith)) (h i))
+    (λ (l : n ≤ i). let q : length (map f (counting 0 n)) ≤ i = rw length-map-counting l in rw getD-past (omega arith))
+    (cases-lt i n)
 
 pub drawn-sound : (c r : ℕ) (g : ℕ → ℕ → ℕ) → c ≤ 4096 → r ≤ 4096 → ((x y : ℕ) → g x y ≤ 255) → Sound (drawn c r g)
 drawn-sound c r g n l h = record {

@@ -4,6 +4,7 @@ ghost use denote.Ref.{now};
 ghost use Rattle.pictures.specs.Raster.{Raster, Sound, levelAt};
 
 mod bytes;
+
 pub use bytes::BytePicture;
 pub use bytes::BytePictureShows;
 

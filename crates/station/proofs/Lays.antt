@@ -20,9 +20,9 @@ use Rattle.station.specs.Account.{Account, account, outcome, accepted, refused
 pub counted : (n : ℕ) (m h : List ℕ) → Some m ≡ cond (leb n 65536) (Some h) None → m ≡ h
 counted n m h e =
     ⊎-elim
-      (λ (t : leb n 65536 ≡ true). let k : Some m ≡ Some h = rw t at e in cc)
-      (λ (t : leb n 65536 ≡ false). let k : _≡_ {A = Option (List ℕ)} (Some m) None = rw t at e in let z : _≡_ {A = ℕ} 0 1 = cc in absurd (omega arith))
-      (cases-bool (leb n 65536))
+    (λ (t : leb n 65536 ≡ true). let k : Some m ≡ Some h = rw t at e in cc)
+    (λ (t : leb n 65536 ≡ false). let k : _≡_ {A = Option (List ℕ)} (Some m) None = rw t at e in let z : _≡_ {A = ℕ} 0 1 = cc in absurd (omega arith))
+    (cases-bool (leb n 65536))
 
 module _ (a : Account) (p : Raster) (s : Sound p) (m : List ℕ) (e : Some m ≡ cond (leb (size p) 65536) (Some (histogramOf (p .levels))) None) where
   many : pixels m ≡ size p
@@ -40,4 +40,4 @@ module _ (a : Account) (p : Raster) (s : Sound p) (m : List ℕ) (e : Some m ≡
   laid-done h n l i =
       let k = leb-true (pixels (a .hand) + pixels m) 65536 (sym l) in
       rw (ne-eqb (size p) 0 (λ z. n (many ∙ z)), le-ltb 65536 (pixels (a .hand) + size p) (omega (arith, k, many)))
-        (ap (λ x. outcome accepted (account x (a .cuts))) (i ∙ ap (added (a .hand)) (counted (size p) m (histogramOf (p .levels)) e)))
+      (ap (λ x. outcome accepted (account x (a .cuts))) (i ∙ ap (added (a .hand)) (counted (size p) m (histogramOf (p .levels)) e)))

@@ -22,10 +22,26 @@ impl StationFault {
         ensures { λ r. ⌜ r ≡ stationFault self ⌝ }
     {
         match self {
-            StationFault::NoPixel => Fault { layer: 3, number: 31, detail: 0 },
-            StationFault::TooMany => Fault { layer: 3, number: 32, detail: 0 },
-            StationFault::Empty => Fault { layer: 3, number: 33, detail: 0 },
-            StationFault::FewLevels(detail) => Fault { layer: 3, number: 34, detail },
+            StationFault::NoPixel => Fault {
+                layer: 3,
+                number: 31,
+                detail: 0,
+            },
+            StationFault::TooMany => Fault {
+                layer: 3,
+                number: 32,
+                detail: 0,
+            },
+            StationFault::Empty => Fault {
+                layer: 3,
+                number: 33,
+                detail: 0,
+            },
+            StationFault::FewLevels(detail) => Fault {
+                layer: 3,
+                number: 34,
+                detail,
+            },
         }
     }
 }

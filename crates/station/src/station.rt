@@ -34,7 +34,11 @@ impl<R: DistanceRule> Station<R> {
         ensures account { λ r. ⌜ accountOf r ≡ start ⌝ }
         ensures rule { λ r. ⌜ r .rule ≡ rule ⌝ }
     {
-        Station { rule, tally: Tally::new(), cuts: None }
+        Station {
+            rule,
+            tally: Tally::new(),
+            cuts: None,
+        }
     }
 
     // Adds a picture's pixels to those in hand.
@@ -73,7 +77,10 @@ impl<R: DistanceRule> Station<R> {
     {
         let sum = set.sum(&self.rule, &self.tally);
         self.cuts = Some(set);
-        CutAnswer { classes: set.classes(), sum }
+        CutAnswer {
+            classes: set.classes(),
+            sum,
+        }
     }
 
     // A band of the last cut set by its number, counted from 1; none where it is absent.

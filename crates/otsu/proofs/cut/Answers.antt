@@ -41,12 +41,12 @@ returns c =
     let x = c .extent-extent .ensures ∙ ap extentOf (c .histogram .ensures) in
     let s : c .in-Continue-k .k + 1 ≡ suc (otsuLevel h) = omega (arith, f .is) in
     let low : c .in-Continue-mean-band .field-0 ≡ meanBand h (lowest h) (otsuLevel h) =
-        some-mean _ _ _ (c .in-Continue-mean-band .ensures tt) ∙ ap (λ a. meanBand h a (c .in-Continue-k .k)) (ap (λ z. z .lowest) x) ∙ ap (meanBand h (lowest h)) (f .is) in
+    some-mean _ _ _ (c .in-Continue-mean-band .ensures tt) ∙ ap (λ a. meanBand h a (c .in-Continue-k .k)) (ap (λ z. z .lowest) x) ∙ ap (meanBand h (lowest h)) (f .is) in
     let high : c .in-Continue-mean-band-2 .field-0 ≡ meanBand h (suc (otsuLevel h)) (highest h) =
-        some-mean _ _ _ (c .in-Continue-mean-band-2 .ensures tt) ∙ ap (meanBand h (c .in-Continue-k .k + 1)) (ap (λ z. z .highest) x) ∙ ap (λ a. meanBand h a (highest h)) s in
+    some-mean _ _ _ (c .in-Continue-mean-band-2 .ensures tt) ∙ ap (meanBand h (c .in-Continue-k .k + 1)) (ap (λ z. z .highest) x) ∙ ap (λ a. meanBand h a (highest h)) s in
     let ps = c .put-2 .last .self .places in
     let places = two-places (c .new-bands .result .places) (c .put .last .self .places) ps (c .in-Continue-mean-band .field-0) (c .in-Continue-mean-band-2 .field-0)
-        (meanBand h (lowest h) (otsuLevel h)) (meanBand h (suc (otsuLevel h)) (highest h)) (c .new-bands .ensures) (c .put .ensures) (c .put-2 .ensures) low high in
+    (meanBand h (lowest h) (otsuLevel h)) (meanBand h (suc (otsuLevel h)) (highest h)) (c .new-bands .ensures) (c .put .ensures) (c .put-2 .ensures) low high in
     made (c .new .result) (c .put-2 .last .self) 2 (c .new .ensures) (halves h (f .two) ps places)
     ∙ ap (λ (bs : List Band). Some (take 2 bs)) places
     ∙ sym (cond-false (ltb (length (occupied h)) 2) None (Some (otsuBands h)) (le-ltb (length (occupied h)) 2 (f .two)))

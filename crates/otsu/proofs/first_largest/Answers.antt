@@ -14,13 +14,13 @@ use Rattle.otsu.proofs.first_largest.Needs.{then-below, else-below}
 first : (c : need.After-count-n0) → Split (c .args .histogram .now .counts) (c .args .lowest) (c .args .n) (c .args .s) (c .count-n0 .result) (c .count-n0 .result * c .args .lowest)
 first c =
     split-first (c .args .histogram .now .counts) (c .args .lowest) (c .args .highest) (c .args .n) (c .args .s) (c .pre .range) (c .pre .count .0) (c .pre .count .1) (c .pre .sum)
-      (c .count-n0 .result) (c .count-n0 .ensures)
+    (c .count-n0 .result) (c .count-n0 .ensures)
 
 -- The classes of the next level, in the loop.
 next : (c : need.After-count-here) → Split (c .args .histogram .now .counts) (c .loop-k .k) (c .args .n) (c .args .s) (c .loop-k .n0 + c .count-here .result) (c .loop-k .s0 + c .count-here .result * c .loop-k .k)
 next c =
     split-next (c .args .histogram .now .counts) (c .args .lowest) (c .args .highest) (c .args .n) (c .args .s) (c .pre .range) (c .pre .count .0) (c .pre .count .1) (c .pre .sum)
-      (c .loop-k .k) (c .loop-k .n0) (c .loop-k .s0) (c .count-here .result) (omega arith) (c .loop-k-test .taken) (c .loop-k .inv .0) (c .loop-k .inv .1) (c .count-here .ensures)
+    (c .loop-k .k) (c .loop-k .n0) (c .loop-k .s0) (c .count-here .result) (omega arith) (c .loop-k-test .taken) (c .loop-k .inv .0) (c .loop-k .inv .1) (c .count-here .ensures)
 
 pub sub-n : need.sub-n
 sub-n c = first c .low
@@ -36,11 +36,15 @@ loop-k-holds c =
     let h = c .args .histogram .now .counts in
     let lo = c .args .lowest in
     let f = split-first h lo (c .args .highest) (c .args .n) (c .args .s) (c .pre .range) (c .pre .count .0) (c .pre .count .1) (c .pre .sum) (c .count-n0 .result) (c .count-n0 .ensures) in
-    let e = sym (add-one lo) in
-    ( f .count ∙ ap (sumOf one h 0) e, f .sum ∙ ap (sumOf level h 0) e, subst (λ z. Otsu h lo z lo) e (otsu-first h lo)
-    , split-top h lo _ _ _ _ (c .criterion-most .result .num) f (c .criterion-most .ensures .num)
-    , split-bottom h lo _ _ _ _ (c .criterion-most .result .den) f (c .criterion-most .ensures .den)
-    , omega arith, omega arith )
+    let e = sym (add-one lo) in (
+      f .count ∙ ap (sumOf one h 0) e,
+      f .sum ∙ ap (sumOf level h 0) e,
+      subst (λ z. Otsu h lo z lo) e (otsu-first h lo),
+      split-top h lo _ _ _ _ (c .criterion-most .result .num) f (c .criterion-most .ensures .num),
+      split-bottom h lo _ _ _ _ (c .criterion-most .result .den) f (c .criterion-most .ensures .den),
+      omega arith,
+      omega arith,
+    )
 
 pub add-n0 : need.add-n0
 add-n0 c = let f = next c in let k : c .loop-k .n0 + c .count-here .result ≤ 65536 = omega (arith, f .low) in search needs
@@ -64,25 +68,31 @@ loop-k-again c =
     let k = c .loop-k .k in
     let i = c .loop-k .inv in
     let f = split-next h lo (c .args .highest) (c .args .n) (c .args .s) (c .pre .range) (c .pre .count .0) (c .pre .count .1) (c .pre .sum)
-        k (c .loop-k .n0) (c .loop-k .s0) (c .count-here .result) (omega arith) (c .loop-k-test .taken) (i .0) (i .1) (c .count-here .ensures) in
+    k (c .loop-k .n0) (c .loop-k .s0) (c .count-here .result) (omega arith) (c .loop-k-test .taken) (i .0) (i .1) (c .count-here .ensures) in
     let e = sym (add-one k) in
     let a = f .count ∙ ap (sumOf one h 0) e in
     let b = f .sum ∙ ap (sumOf level h 0) e in
     let t = split-top h k _ _ _ _ (c .criterion-next .result .num) f (c .criterion-next .ensures .num) in
     let d = split-bottom h k _ _ _ _ (c .criterion-next .result .den) f (c .criterion-next .ensures .den) in
     elim (c .if-below .came) [
-      | then-below w ↦
-          ( a, b
-          , subst (Otsu h lo (k + 1)) (sym (w .best-is)) (step-takes h lo (c .args .highest) k (c .loop-k .best) _ _ _ _ (c .pre .range) (omega arith) (c .loop-k-test .taken) (i .2) (i .3) (i .4) t d (sym (c .below .ensures) ∙ w .if-below .taken))
-          , ap (λ (z : Ratio). z .num) (w .most-is) ∙ t ∙ ap (top h) (sym (w .best-is))
-          , ap (λ (z : Ratio). z .den) (w .most-is) ∙ d ∙ ap (bottom h) (sym (w .best-is))
-          , omega (arith, ap (λ (z : Ratio). z .den) (w .most-is)), omega (arith, ap (λ (z : Ratio). z .den) (w .most-is)) )
-      | else-below w ↦
-          ( a, b
-          , subst (Otsu h lo (k + 1)) (sym (w .best-is)) (step-keeps h lo k (c .loop-k .best) _ _ _ _ (i .2) (i .3) (i .4) t d (sym (c .below .ensures) ∙ w .if-below .left))
-          , ap (λ (z : Ratio). z .num) (w .most-is) ∙ i .3 ∙ ap (top h) (sym (w .best-is))
-          , ap (λ (z : Ratio). z .den) (w .most-is) ∙ i .4 ∙ ap (bottom h) (sym (w .best-is))
-          , omega (arith, ap (λ (z : Ratio). z .den) (w .most-is)), omega (arith, ap (λ (z : Ratio). z .den) (w .most-is)) )
+      | then-below w ↦ (
+        a,
+        b,
+        subst (Otsu h lo (k + 1)) (sym (w .best-is)) (step-takes h lo (c .args .highest) k (c .loop-k .best) _ _ _ _ (c .pre .range) (omega arith) (c .loop-k-test .taken) (i .2) (i .3) (i .4) t d (sym (c .below .ensures) ∙ w .if-below .taken)),
+        ap (λ (z : Ratio). z .num) (w .most-is) ∙ t ∙ ap (top h) (sym (w .best-is)),
+        ap (λ (z : Ratio). z .den) (w .most-is) ∙ d ∙ ap (bottom h) (sym (w .best-is)),
+        omega (arith, ap (λ (z : Ratio). z .den) (w .most-is)),
+        omega (arith, ap (λ (z : Ratio). z .den) (w .most-is)),
+      )
+      | else-below w ↦ (
+        a,
+        b,
+        subst (Otsu h lo (k + 1)) (sym (w .best-is)) (step-keeps h lo k (c .loop-k .best) _ _ _ _ (i .2) (i .3) (i .4) t d (sym (c .below .ensures) ∙ w .if-below .left)),
+        ap (λ (z : Ratio). z .num) (w .most-is) ∙ i .3 ∙ ap (top h) (sym (w .best-is)),
+        ap (λ (z : Ratio). z .den) (w .most-is) ∙ i .4 ∙ ap (bottom h) (sym (w .best-is)),
+        omega (arith, ap (λ (z : Ratio). z .den) (w .most-is)),
+        omega (arith, ap (λ (z : Ratio). z .den) (w .most-is)),
+      )
     ]
 
 pub returns : need.returns

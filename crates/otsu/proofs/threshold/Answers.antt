@@ -25,7 +25,7 @@ first-largest-requires c κs =
     let n : c .count .result ≡ pixels h = c .count .ensures ∙ c .sums-all .ensures .count in
     record {
       range = subst (λ k. Range k (c .extent-extent .result .lowest) (c .extent-extent .result .highest)) (sym e)
-        (subst (λ z. Range h (z .lowest) (z .highest)) (sym x) (range h l));
+          (subst (λ z. Range h (z .lowest) (z .highest)) (sym x) (range h l));
       count = (n ∙ ap pixels (sym e), omega (arith, n, t .adds, t .few));
       sum = c .levels .ensures ∙ c .sums-all .ensures .levels ∙ ap (λ k. sumOf level k 0 256) (sym e);
     }
@@ -37,10 +37,10 @@ returns c =
     let x = c .extent-extent .ensures ∙ ap extentOf e in
     let l : 2 ≤ length (occupied h) = omega (arith, c .if-extent-lt2 .left, ap (λ z. z .occupied) x) in
     let o : Otsu h (lowest h) (highest h) (c .first-largest .result) =
-        subst (λ z. Otsu h (z .lowest) (z .highest) (c .first-largest .result)) x
-          (subst (λ k. Otsu k (c .extent-extent .result .lowest) (c .extent-extent .result .highest) (c .first-largest .result)) e (c .first-largest .ensures)) in
+    subst (λ z. Otsu h (z .lowest) (z .highest) (c .first-largest .result)) x
+    (subst (λ k. Otsu k (c .extent-extent .result .lowest) (c .extent-extent .result .highest) (c .first-largest .result)) e (c .first-largest .ensures)) in
     record {
       value = ap (λ (k : ℕ). Some k) (otsu-only h (lowest h) (highest h) _ _ o (otsu-level h l))
-        ∙ sym (cond-false (ltb (length (occupied h)) 2) None (Some (otsuLevel h)) (le-ltb (length (occupied h)) 2 l));
+          ∙ sym (cond-false (ltb (length (occupied h)) 2) None (Some (otsuLevel h)) (le-ltb (length (occupied h)) 2 l));
       largest = o;
     }

@@ -17,7 +17,7 @@ loop-level-holds g c =
 
 -- the total with one level more
 next : (g : given.Over) (c : need.After-distance g)
-  → c .loop-level .sum + c .count .result * c .distance .result ≡ sumOf (λ j. g .R·DistanceRule .table (c .args .rule .now) j (c .args .band .level)) (countsOf (c .args .tally .now)) (c .args .band .low) (c .loop-level .level + 1)
+    → c .loop-level .sum + c .count .result * c .distance .result ≡ sumOf (λ j. g .R·DistanceRule .table (c .args .rule .now) j (c .args .band .level)) (countsOf (c .args .tally .now)) (c .args .band .low) (c .loop-level .level + 1)
 next g c =
     let d = g .R·DistanceRule .table (c .args .rule .now) in
     let j = c .loop-level .level in

@@ -24,9 +24,10 @@ pub loop-x-again : need.loop-x-again
 loop-x-again g c =
     let p = g .P·Picture .shown (c .args .picture .now) in
     elim (c .match-level .came) [
-      in-Some w ↦ counted-more p (g .P·Picture .sound (c .args .picture .now)) (c .columns-columns .result) (c .loop-x .x) (c .loop-y .y) (w .in-Some .level) (c .columns-columns .ensures) (w .in-Some .ensures tt)
-        (c .loop-x .histogram .counts) (c .match-level .histogram .counts) (c .loop-x .inv) (ap (λ t. t .counts) (w .histogram-is) ∙ w .put .ensures)
-    | in-rest w ↦ absurd (never-none p (c .loop-x .x) (c .loop-y .y) (omega arith) (omega arith) (w .in-rest .ensures tt)) ]
+      | in-Some w ↦ counted-more p (g .P·Picture .sound (c .args .picture .now)) (c .columns-columns .result) (c .loop-x .x) (c .loop-y .y) (w .in-Some .level) (c .columns-columns .ensures) (w .in-Some .ensures tt)
+          (c .loop-x .histogram .counts) (c .match-level .histogram .counts) (c .loop-x .inv) (ap (λ t. t .counts) (w .histogram-is) ∙ w .put .ensures)
+      | in-rest w ↦ absurd (never-none p (c .loop-x .x) (c .loop-y .y) (omega arith) (omega arith) (w .in-rest .ensures tt))
+    ]
 
 pub returns : need.returns
 returns g c =

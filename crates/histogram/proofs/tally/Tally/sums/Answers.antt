@@ -44,10 +44,11 @@ add-levels c =
 pub loop-level-again : need.loop-level-again
 loop-level-again c =
     let h = c .args .self .now .histogram .counts in
-    let j = c .loop-level .level in
-    ( omega (arith, sum-more one h (c .args .low) j (omega arith), mul-one (getD h j 0), c .loop-level .inv .0)
-    , omega (arith, sum-more level h (c .args .low) j (omega arith), c .loop-level .inv .1)
-    , omega arith )
+    let j = c .loop-level .level in (
+      omega (arith, sum-more one h (c .args .low) j (omega arith), mul-one (getD h j 0), c .loop-level .inv .0),
+      omega (arith, sum-more level h (c .args .low) j (omega arith), c .loop-level .inv .1),
+      omega arith,
+    )
 
 pub ghost-result : need.ghost-result
 ghost-result c =
