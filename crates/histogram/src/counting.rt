@@ -92,10 +92,10 @@ impl Tally {
         self.total
     }
 
-    pub fn histogram(&self) -> Histogram
-        ensures { λ r. ⌜ r .counts ≡ countsOf (now (self .entry)) ⌝ }
+    pub fn histogram(&self) -> &Histogram
+        ensures { λ r. ⌜ now r .counts ≡ countsOf (now (self .entry)) ⌝ }
     {
-        self.histogram
+        &self.histogram
     }
 
     // The pixels of the levels from low to high.

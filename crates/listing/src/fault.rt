@@ -37,15 +37,15 @@ impl ListFault {
 pub impl From<ReadFault> for ListFault as ListFromRead {
     ghost converts = { λ f r. r ≡ Read f };
 
-    fn from(f: ReadFault) -> ListFault {
-        ListFault::Read(f)
+    fn from(fault: ReadFault) -> ListFault {
+        ListFault::Read(fault)
     }
 }
 
 pub impl From<StationFault> for ListFault as ListFromStation {
     ghost converts = { λ f r. r ≡ Station f };
 
-    fn from(f: StationFault) -> ListFault {
-        ListFault::Station(f)
+    fn from(fault: StationFault) -> ListFault {
+        ListFault::Station(fault)
     }
 }

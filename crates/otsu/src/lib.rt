@@ -91,7 +91,7 @@ pub fn threshold(tally: &Tally) -> Option<u8>
     }
     let all = tally.sums(0, 255);
     Some(first_largest(
-        &histogram,
+        histogram,
         extent.lowest,
         extent.highest,
         all.count() as u64,

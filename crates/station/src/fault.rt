@@ -21,27 +21,16 @@ impl StationFault {
     pub fn fault(self) -> Fault
         ensures { λ r. ⌜ r ≡ stationFault self ⌝ }
     {
-        match self {
-            StationFault::NoPixel => Fault {
-                layer: 3,
-                number: 31,
-                detail: 0,
-            },
-            StationFault::TooMany => Fault {
-                layer: 3,
-                number: 32,
-                detail: 0,
-            },
-            StationFault::Empty => Fault {
-                layer: 3,
-                number: 33,
-                detail: 0,
-            },
-            StationFault::FewLevels(detail) => Fault {
-                layer: 3,
-                number: 34,
-                detail,
-            },
+        let (number, detail) = match self {
+            StationFault::NoPixel => (31, 0),
+            StationFault::TooMany => (32, 0),
+            StationFault::Empty => (33, 0),
+            StationFault::FewLevels(levels) => (34, levels),
+        };
+        Fault {
+            layer: 3,
+            number,
+            detail,
         }
     }
 }

@@ -94,8 +94,8 @@ impl<R: DistanceRule> Station<R> {
     }
 
     // The histogram of the pixels in hand.
-    pub fn histogram(&self) -> Histogram
-        ensures { λ r. ⌜ r .counts ≡ accountOf (now (self .entry)) .hand ⌝ }
+    pub fn histogram(&self) -> &Histogram
+        ensures { λ r. ⌜ now r .counts ≡ accountOf (now (self .entry)) .hand ⌝ }
     {
         self.tally.histogram()
     }
