@@ -1,16 +1,16 @@
 -- The bands of a cut set, and its sum band by band.
 use Prim.Native.Nat.{ℕ, _+_, _-_, _*_, _<_, _≤_}
-use mathlib.Core.Path.{_≡_, refl, ap, sym, _∙_}
+use mathlib.Core.Path.{_≡_, ap, sym, _∙_}
 use mathlib.Core.Bool.{cond, _&&_, true, false}
 use mathlib.Core.Logic.{⊎-elim}
 use mathlib.Core.List.{List, [], _∷_, _++_}
 use native.Mathlib.Omega.{arith}
 use lib.Dec.{eqb, leb}
-use lib.ListN.{length, getD, take}
+use lib.ListN.{length, take}
 use Rattle.std.specs.Options.{Cases, mapped}
 use Rattle.std.specs.declared.option.Option.{Option}
 use Rattle.std.specs.declared.option.Option.the-variants.{Some, None}
-use Rattle.std.proofs.shelf.Lists.{length-take-le, getD-take, take-more, take-all}
+use Rattle.std.proofs.shelf.Lists.{length-take-le, getD-take, take-more}
 use Rattle.std.proofs.shelf.Tests.{le-leb, and-from, cond-true, cases-bool, ne-eqb}
 use Rattle.histogram.specs.Totals.{sumOf, pixels}
 use Rattle.histogram.proofs.Laws.{sum-most, room}

@@ -1,8 +1,8 @@
 -- Between the lowest and the highest occupied level lie all pixels.
 use Prim.Native.Nat.{ℕ, zero, suc, _+_, _-_, _<_, _≤_}
 use mathlib.Core.Path.{_≡_, refl, ap, sym, _∙_, subst}
-use mathlib.Core.Bool.{Bool, true, false, cond}
-use mathlib.Core.Logic.{⊎-elim, inl, inr}
+use mathlib.Core.Bool.{cond}
+use mathlib.Core.Logic.{⊎-elim}
 use mathlib.Core.List.{List, [], _∷_, _++_, append-nil}
 use native.Mathlib.Omega.{arith}
 use native.Mathlib.Numerals.{add-one}
@@ -10,9 +10,9 @@ use lib.Dec.{ltb}
 use lib.ListN.{length, getD}
 use Rattle.std.specs.Iters.{counting}
 use Rattle.std.specs.shelf.Lists.{kept-by}
-use Rattle.std.proofs.shelf.Lists.{length-push, getD-push, getD-append-left, map-id}
+use Rattle.std.proofs.shelf.Lists.{length-push, getD-push, map-id}
 use Rattle.std.proofs.shelf.Counted.{kept-by-map-counting-more}
-use Rattle.std.proofs.shelf.Tests.{cases-bool, cases-eq, cases-lt, ltb-true, ltb-false, lt-ltb, le-ltb, both-ways}
+use Rattle.std.proofs.shelf.Tests.{cases-eq, cases-lt, lt-ltb, le-ltb}
 use Rattle.histogram.specs.declared.histogram.Extent.{Extent}
 use Rattle.histogram.specs.Counts.{occupied, lowest, highest}
 use Rattle.histogram.specs.Extents.{extentBy}
@@ -130,10 +130,3 @@ spanned h p = by (occupied h) p (subst (Known h 256) (occupied-is h 256 refl) (k
     by : (os : List ℕ) → 0 < length os → Known h 256 os → Spanned h 256 os
     by [] q k = absurd (omega arith)
     by (x ∷ xs) q k = k
-
-pub none-occupied : (h : List ℕ) → length (occupied h) ≡ 0 → (j : ℕ) → j < 256 → getD h j 0 ≡ 0
-none-occupied h e = by (occupied h) e (subst (Known h 256) (occupied-is h 256 refl) (known h 256))
-  where
-    by : (os : List ℕ) → length os ≡ 0 → Known h 256 os → (j : ℕ) → j < 256 → getD h j 0 ≡ 0
-    by [] q k = k
-    by (x ∷ xs) q k = absurd (omega arith)

@@ -1,14 +1,13 @@
 -- A walk over a picture, row by row, and the histogram of what it has passed.
-use Prim.Native.Nat.{ℕ, _+_, _*_, _^_, _<_, _≤_}
+use Prim.Native.Nat.{ℕ, _+_, _*_, _<_, _≤_}
 use mathlib.Core.Path.{_≡_, refl, ap, sym, _∙_, subst}
 use mathlib.Core.Bool.{cond}
 use mathlib.Core.Logic.{_≢_, ⊎-elim}
 use mathlib.Core.List.{List, [], _∷_, _++_}
 use native.Mathlib.Omega.{arith}
-use native.Mathlib.Nat.{zero-mul, add-assoc, mul-comm, add-mul, one-mul}
+use native.Mathlib.Nat.{zero-mul, add-assoc, mul-comm}
 use lib.Dec.{eqb}
 use lib.ListN.{length, getD, set, take, length-take}
-use Rattle.std.specs.shelf.Lists.{countBy}
 use Rattle.std.proofs.shelf.Lists.{ext-getD, length-set, getD-set-same, getD-set-other, take-more, take-all}
 use Rattle.std.proofs.shelf.Sums.{sumBy-push, countBy-le-length}
 use Rattle.std.proofs.shelf.Tests.{cases-eq, eq-eqb, ne-eqb, cond-true, cond-false}
@@ -34,9 +33,6 @@ seen p s n x y v e h =
       within = omega (arith, mul-add-lt y (p .columns) x (p .rows) (a .row) (a .column), s .whole);
       is = a .is;
     })
-
-pub next-row : (y n x : ℕ) → x ≡ n → y * n + x ≡ (y + 1) * n
-next-row y n x e = rw e (sym (add-mul y 1 n ∙ ap (λ m. y * n + m) (one-mul n)))
 
 pub rows-done : (p : Raster) → Sound p → (y n : ℕ) → n ≡ p .columns → y ≡ p .rows → y * n ≡ length (p .levels)
 rows-done p s y n e q = rw (e, q) (mul-comm (p .rows) (p .columns) ∙ sym (s .whole))

@@ -1,11 +1,11 @@
 -- Three lines, one after the other, in a text that has room for them.
-use Prim.Native.Nat.{ℕ, _+_, _^_, _<_, _≤_}
+use Prim.Native.Nat.{ℕ, _+_, _≤_}
 use mathlib.Core.Path.{_≡_, _∙_}
-use mathlib.Core.List.{List, [], _∷_, _++_, append-assoc}
+use mathlib.Core.List.{List, [], _++_, append-assoc}
 use native.Mathlib.Omega.{arith}
 use lib.ListN.{length}
 use Rattle.std.proofs.shelf.Lists.{length-append}
-use Rattle.text.specs.Texts.{clipped, line}
+use Rattle.text.specs.Texts.{clipped}
 use Rattle.text.proofs.Clips.{pushed-whole}
 
 pub three-lines : (a b d t₀ t₁ t₂ t₃ : List ℕ) → t₀ ≡ [] → t₁ ≡ clipped (t₀ ++ a) → t₂ ≡ clipped (t₁ ++ b) → t₃ ≡ clipped (t₂ ++ d) → length a + length b + length d ≤ 256

@@ -10,7 +10,7 @@ use Rattle.std.proofs.shelf.Tests.{cases-lt}
 use Rattle.histogram.specs.Counts.{occupied, lowest, highest}
 use Rattle.histogram.specs.Totals.{sumOf, one, level, pixels}
 use Rattle.histogram.proofs.Laws.{sum-join, sum-suc, sum-empty, level-le, room}
-use Rattle.histogram.proofs.Spans.{Spanned, spanned}
+use Rattle.histogram.proofs.Spans.{spanned}
 use Rattle.otsu.specs.Otsu.{n0, n1, s0, s1, bottom}
 use Rattle.otsu.specs.Search.{Range}
 

@@ -1,5 +1,5 @@
 -- The two bands of the Otsu cut are a cut set.
-use Prim.Native.Nat.{ℕ, zero, suc, _+_, _<_, _≤_}
+use Prim.Native.Nat.{ℕ, zero, suc, _<_, _≤_}
 use mathlib.Core.Path.{_≡_, sym, ap, _∙_, subst}
 use mathlib.Core.Bool.{true, false, cond}
 use mathlib.Core.Logic.{⊎-elim}
@@ -15,7 +15,7 @@ use Rattle.histogram.specs.Totals.{countOf}
 use Rattle.histogram.proofs.Laws.{level-le}
 use Rattle.histogram.proofs.Means.{mean-within}
 use Rattle.cut_sets.specs.declared.band.Band.{Band}
-use Rattle.cut_sets.specs.Bands.{noBand, bandAt, meanBand, Inside, Rising, Cuts}
+use Rattle.cut_sets.specs.Bands.{noBand, meanBand, Inside, Rising, Cuts}
 use Rattle.otsu.specs.Otsu.{Otsu, otsuLevel}
 use Rattle.otsu.proofs.Classes.{range}
 use Rattle.otsu.proofs.Choice.{otsu-level}

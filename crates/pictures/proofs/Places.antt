@@ -14,7 +14,7 @@ use Rattle.std.proofs.shelf.Tests.{cases-bool, lt-ltb, le-leb, and-parts, ltb-t
 use Rattle.std.proofs.shelf.Counted.{fill-by-all}
 use Rattle.std.proofs.shelf.Lists.{length-take-le, getD-take, take-all}
 use Rattle.std.proofs.shelf.Bits.{div-add-mod', div-mul-add, mul-le}
-use Rattle.pictures.specs.Raster.{Raster, Sound, raster, levelAt, place}
+use Rattle.pictures.specs.Raster.{Raster, raster, levelAt, place}
 use Rattle.pictures.specs.Drawn.{drawn, drawn-place}
 use Rattle.pictures.specs.Bytes.{columnsGiven, wholeRows, rowsOf, byteRaster, showing}
 

@@ -1,8 +1,7 @@
 -- The numbers of a line, and how long a line is.
 use mathlib.Core.Path.{_≡_, refl, sym, ap, _∙_}
 use mathlib.Core.List.{List, [], _∷_, _++_, append-assoc, append-nil}
-use Prim.Native.Nat.{ℕ, suc, _+_, _*_, _^_, _<_, _≤_}
-use native.Mathlib.Nat.{suc-mul}
+use Prim.Native.Nat.{ℕ, _+_, _^_, _<_, _≤_}
 use native.Mathlib.Omega.{arith}
 use lib.ListN.{length, getD, take}
 use Rattle.std.specs.Written.{decimal}
@@ -38,11 +37,3 @@ length-line name ns = omega (arith, length-append name (fields ns ++ (10 ∷ [])
 -- the digits of any u64
 pub length-decimal-u64 : (n : ℕ) → n < 2 ^ 64 → length (decimal n) ≤ 20
 length-decimal-u64 n h = length-decimal-le 20 n (omega arith) (omega arith) h
-
--- numbers of at most k digits each
-fields-le : (k : ℕ) (ns : List ℕ) → ((i : ℕ) → i < length ns → length (decimal (getD ns i 0)) ≤ k) → fieldsLength ns ≤ length ns * (k + 1)
-fields-le k [] h = omega arith
-fields-le k (n ∷ ns) h = omega (arith, h 0 (omega arith), fields-le k ns (λ i l. h (suc i) (omega arith)), suc-mul (length ns) (k + 1))
-
-pub length-line-le : (k : ℕ) (name ns : List ℕ) → ((i : ℕ) → i < length ns → length (decimal (getD ns i 0)) ≤ k) → length (line name ns) ≤ length name + length ns * (k + 1) + 1
-length-line-le k name ns h = omega (arith, length-line name ns, fields-le k ns h)

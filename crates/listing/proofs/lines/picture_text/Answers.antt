@@ -1,10 +1,9 @@
-use mathlib.Core.Path.{_≡_, ap, sym, _∙_}
+use mathlib.Core.Path.{ap, _∙_}
 use Rattle.std.proofs.shelf.Results.{err-from-errBy}
 use Rattle.std.specs.declared.result.Result.the-variants.{Ok, Err}
 use Rattle.rules.specs.Distances.{squares}
-use Rattle.station.specs.Account.{Account, step, lay, otsuCut}
+use Rattle.station.specs.Account.{step, lay}
 use Rattle.station.specs.Faults.{stationFault}
-use Rattle.station.specs.States.{accountOf}
 use Rattle.listing.specs.Faults.{written}
 use Rattle.listing.specs.Listing.{afterLay, afterCall, listingLines, pictureListing}
 use Rattle.listing.proofs.lines.picture_text.Needs as need

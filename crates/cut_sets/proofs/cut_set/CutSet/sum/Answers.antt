@@ -1,9 +1,5 @@
-use Prim.Native.Nat.{ℕ, _+_, _*_}
-use mathlib.Core.Path.{_≡_, ap, sym, _∙_}
 use native.Mathlib.Omega.{arith}
 use Rattle.histogram.specs.Tallies.{countsOf}
-use Rattle.cut_sets.specs.Bands.{bandAt}
-use Rattle.cut_sets.specs.CutSums.{bandSum}
 use Rattle.cut_sets.proofs.Parts.{cut-more}
 use Rattle.cut_sets.proofs.cut_set.CutSet.sum.Needs as need
 

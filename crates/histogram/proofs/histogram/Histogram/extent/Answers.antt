@@ -1,7 +1,5 @@
-use Prim.Native.Nat.{ℕ, _+_, _<_, _≤_}
-use mathlib.Core.Path.{_≡_, ap, sym, _∙_}
+use mathlib.Core.Path.{ap, sym, _∙_}
 use native.Mathlib.Omega.{arith}
-use lib.ListN.{getD}
 use Rattle.histogram.specs.Extents.{extentBy}
 use Rattle.histogram.proofs.Spans.{occupiedTo, grown-yes, grown-no, occupied-is, extent-push}
 use Rattle.histogram.proofs.histogram.Histogram.extent.Needs as need

@@ -1,8 +1,8 @@
-use Prim.Native.Nat.{ℕ, _<_, _≤_}
+use Prim.Native.Nat.{_≤_}
 use native.Mathlib.Omega.{arith}
 use borrow.Author.Needs.{needs}
 use Rattle.histogram.specs.Means.{nearestLevel}
-use Rattle.histogram.proofs.Means.{nearest, nearest-to}
+use Rattle.histogram.proofs.Means.{nearest-to}
 use Rattle.histogram.proofs.sums.BandSums.nearest_level.Needs as need
 
 pub cast-result : need.cast-result

@@ -1,8 +1,6 @@
-use Prim.Native.Nat.{ℕ, _+_, _≤_}
-use mathlib.Core.Path.{_≡_, ap, sym, _∙_}
-use mathlib.Core.Logic.{⊎-elim}
+use mathlib.Core.Path.{ap, _∙_}
 use native.Mathlib.Omega.{arith}
-use lib.ListN.{length, getD}
+use lib.ListN.{length}
 use Rattle.histogram.specs.Totals.{pixels, one}
 use Rattle.histogram.proofs.Eachs.{each-long}
 use Rattle.histogram.proofs.Laws.{sum-added, count-le}

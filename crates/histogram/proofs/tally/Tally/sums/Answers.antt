@@ -5,7 +5,7 @@ use native.Mathlib.Omega.{arith}
 use native.Mathlib.Nat.{mul-one}
 use lib.ListN.{getD}
 use Rattle.std.proofs.shelf.Bits.{mul-le}
-use Rattle.histogram.specs.Totals.{sumOf, one, level}
+use Rattle.histogram.specs.Totals.{one, level}
 use Rattle.histogram.proofs.Laws.{sum-none, sum-more, sum-ended, count-le, room}
 use Rattle.histogram.proofs.tally.Tally.sums.Needs as need
 
