@@ -29,10 +29,18 @@ impl<'a> BytePicture<'a> {
         ensures { λ r. ⌜ showing (r .columns) (r .rows) (now (r .bytes)) ≡ byteRaster columns (now (bytes .entry)) ⌝ }
     {
         if columns == 0 || columns > MOST {
-            return BytePicture { columns: 0, rows: 0, bytes };
+            return BytePicture {
+                columns: 0,
+                rows: 0,
+                bytes,
+            };
         }
         let rows = (bytes.len() / columns).min(MOST);
-        BytePicture { columns, rows, bytes }
+        BytePicture {
+            columns,
+            rows,
+            bytes,
+        }
     }
 }
 
