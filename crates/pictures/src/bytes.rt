@@ -66,3 +66,27 @@ pub impl<'a> Picture for BytePicture<'a> as BytePictureShows {
         }
     }
 }
+
+#[cfg(test)]
+mod tests {
+    use super::*;
+    use std::test::*;
+
+    #[test]
+    fn seven_bytes_at_three_columns() -> Result<(), Fail> {
+        let bytes = [1, 2, 3, 4, 5, 6, 7];
+        let picture = BytePicture::new(&bytes, 3);
+        check_eq(picture.columns(), 3)?;
+        check_eq(picture.rows(), 2)?;
+        check_eq(picture.level(2, 1), Some(6))?;
+        check_eq(picture.level(3, 0), None)?;
+        check_eq(picture.level(0, 2), None)
+    }
+
+    #[test]
+    fn column_counts_without_a_row() -> Result<(), Fail> {
+        let bytes = [0; 4097];
+        check_eq(BytePicture::new(&bytes, 0).rows(), 0)?;
+        check_eq(BytePicture::new(&bytes, 4097).rows(), 0)
+    }
+}

@@ -61,3 +61,19 @@ pub impl DistanceRule for Tolerance as ToleranceRule {
         if gap_of(a, b) <= self.within { 0 } else { 1 }
     }
 }
+
+#[cfg(test)]
+mod tests {
+    use super::*;
+    use std::test::*;
+
+    #[test]
+    fn nine_and_twelve() -> Result<(), Fail> {
+        check_eq(Squares.distance(9, 12), 9)?;
+        check_eq(Absolute.distance(9, 12), 3)?;
+        let near = Tolerance { within: 2 };
+        check_eq(near.distance(9, 12), 1)?;
+        let wide = Tolerance { within: 3 };
+        check_eq(wide.distance(9, 12), 0)
+    }
+}

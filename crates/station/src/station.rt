@@ -107,3 +107,127 @@ impl<R: DistanceRule> Station<R> {
         self.tally.total()
     }
 }
+
+#[cfg(test)]
+mod tests {
+    use super::*;
+    use crate::fault::StationFaultDebug;
+    use crate::fault::StationFaultPartialEq;
+    use cut_sets::band::BandDebug;
+    use cut_sets::band::BandPartialEq;
+    use pictures::BytePicture;
+    use pictures::BytePictureShows;
+    use rules::Absolute;
+    use rules::AbsoluteRule;
+    use rules::Squares;
+    use rules::SquaresRule;
+    use std::test::*;
+
+    #[test]
+    fn two_bands() -> Result<(), Fail> {
+        let m = [10, 10, 12, 12, 50, 50, 52, 60];
+        let mut station = Station::new(Squares);
+        check_eq(station.otsu_cut(), Err(StationFault::Empty))?;
+        check_eq(station.band(1), None)?;
+        check_eq(station.lay(&BytePicture::new(&m, 4)), Ok(()))?;
+        check_eq(station.total(), 8)?;
+        check_eq(
+            station.otsu_cut(),
+            Ok(CutAnswer {
+                classes: 2,
+                sum: 72,
+            }),
+        )?;
+        check_eq(station.band(0), None)?;
+        check_eq(
+            station.band(1),
+            Some(Band {
+                low: 10,
+                high: 12,
+                level: 11,
+                count: 4,
+            }),
+        )?;
+        check_eq(
+            station.band(2),
+            Some(Band {
+                low: 13,
+                high: 60,
+                level: 53,
+                count: 4,
+            }),
+        )?;
+        check_eq(station.band(3), None)
+    }
+
+    #[test]
+    fn absolute_distances() -> Result<(), Fail> {
+        let m = [10, 10, 12, 12, 50, 50, 52, 60];
+        let mut station = Station::new(Absolute);
+        check_eq(station.lay(&BytePicture::new(&m, 4)), Ok(()))?;
+        check_eq(
+            station.otsu_cut(),
+            Ok(CutAnswer {
+                classes: 2,
+                sum: 18,
+            }),
+        )
+    }
+
+    // Thresholds 0 to 3 are equally good here, and the first is taken.
+    #[test]
+    fn first_of_equal_thresholds() -> Result<(), Fail> {
+        let pixels = [0, 2, 4];
+        let mut station = Station::new(Squares);
+        check_eq(station.lay(&BytePicture::new(&pixels, 3)), Ok(()))?;
+        check_eq(station.otsu_cut(), Ok(CutAnswer { classes: 2, sum: 2 }))?;
+        check_eq(
+            station.band(1),
+            Some(Band {
+                low: 0,
+                high: 0,
+                level: 0,
+                count: 1,
+            }),
+        )?;
+        check_eq(
+            station.band(2),
+            Some(Band {
+                low: 1,
+                high: 4,
+                level: 3,
+                count: 2,
+            }),
+        )
+    }
+
+    // The mean of 1 and 2 is at a half.
+    #[test]
+    fn lower_level_at_a_half() -> Result<(), Fail> {
+        let pixels = [0, 1, 2];
+        let mut station = Station::new(Squares);
+        check_eq(station.lay(&BytePicture::new(&pixels, 3)), Ok(()))?;
+        check_eq(station.otsu_cut(), Ok(CutAnswer { classes: 2, sum: 1 }))?;
+        check_eq(
+            station.band(2),
+            Some(Band {
+                low: 1,
+                high: 2,
+                level: 1,
+                count: 2,
+            }),
+        )
+    }
+
+    #[test]
+    fn refusals() -> Result<(), Fail> {
+        let pixels = [7, 7];
+        let mut station = Station::new(Squares);
+        check_eq(
+            station.lay(&BytePicture::new(&pixels, 3)),
+            Err(StationFault::NoPixel),
+        )?;
+        check_eq(station.lay(&BytePicture::new(&pixels, 2)), Ok(()))?;
+        check_eq(station.otsu_cut(), Err(StationFault::FewLevels(1)))
+    }
+}
