@@ -94,10 +94,10 @@ impl<R: DistanceRule> Station<R> {
     }
 
     // The histogram of the pixels in hand.
-    pub fn histogram(&self) -> &Histogram
-        ensures { λ r. ⌜ now r .counts ≡ accountOf (now (self .entry)) .hand ⌝ }
+    pub fn histogram(&self) -> Histogram
+        ensures { λ r. ⌜ r .counts ≡ accountOf (now (self .entry)) .hand ⌝ }
     {
-        self.tally.histogram()
+        *self.tally.histogram()
     }
 
     // How many pixels are in hand.
