@@ -34,6 +34,20 @@ impl BandTable {
     }
 }
 
+// What one band adds to the sum.
+fn band_sum<R: DistanceRule>(rule: &R, tally: &Tally, band: Band) -> u64
+    ensures value { λ r. ⌜ r ≡ bandSum (R·DistanceRule .table (now (rule .entry))) (countsOf (now (tally .entry))) band ⌝ }
+    ensures bound { λ r. ⌜ r ≤ 65536 * 65025 ⌝ }
+{
+    let histogram = tally.histogram();
+    let mut sum = 0;
+    for level in band.low as usize..band.high as usize + 1 {
+        let level = level as u8;
+        sum += histogram.count(level) as u64 * rule.distance(level, band.level) as u64;
+    }
+    sum
+}
+
 impl CutSet {
     // The cut set of the first bands of a table; none exactly where they are no cut set.
     pub fn new(bands: BandTable, classes: usize) -> Option<CutSet>
@@ -71,18 +85,4 @@ impl CutSet {
         }
         sum
     }
-}
-
-// What one band adds to the sum.
-fn band_sum<R: DistanceRule>(rule: &R, tally: &Tally, band: Band) -> u64
-    ensures value { λ r. ⌜ r ≡ bandSum (R·DistanceRule .table (now (rule .entry))) (countsOf (now (tally .entry))) band ⌝ }
-    ensures bound { λ r. ⌜ r ≤ 65536 * 65025 ⌝ }
-{
-    let histogram = tally.histogram();
-    let mut sum = 0;
-    for level in band.low as usize..band.high as usize + 1 {
-        let level = level as u8;
-        sum += histogram.count(level) as u64 * rule.distance(level, band.level) as u64;
-    }
-    sum
 }

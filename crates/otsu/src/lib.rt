@@ -55,6 +55,14 @@ fn criterion(n0: u64, s0: u64, n1: u64, s1: u64) -> Ratio
     }
 }
 
+// Whether a later threshold takes the place of the best so far: only where its criterion is larger, so that the first of equals stays.
+fn replaces(next: Ratio, most: Ratio) -> bool
+    requires { ⌜ 0 < next .den ⌝ ∗ ⌜ next .den ≤ 2 ^ 30 ⌝ ∗ ⌜ 0 < most .den ⌝ ∗ ⌜ most .den ≤ 2 ^ 30 ⌝ }
+    ensures { λ r. ⌜ r ≡ ltb (most .num * next .den) (next .num * most .den) ⌝ }
+{
+    most.below(next)
+}
+
 // The first level from lowest to below highest whose criterion is largest; n and s are the count and the level sum of all pixels.
 fn first_largest(histogram: &Histogram, lowest: u8, highest: u8, n: u64, s: u64) -> u8
     requires range { ⌜ Range (now histogram .counts) lowest highest ⌝ }
@@ -71,7 +79,7 @@ fn first_largest(histogram: &Histogram, lowest: u8, highest: u8, n: u64, s: u64)
         n0 += here;
         s0 += here * k as u64;
         let next = criterion(n0, s0, n - n0, s - s0);
-        if most.below(next) {
+        if replaces(next, most) {
             best = k;
             most = next;
         }

@@ -8,7 +8,7 @@ use Rattle.otsu.specs.declared.Ratio.{Ratio}
 use Rattle.otsu.specs.Otsu.{Otsu, top, bottom}
 use Rattle.otsu.proofs.Choice.{Split, split-first, split-next, split-top, split-bottom, otsu-first, step-takes, step-keeps}
 use Rattle.otsu.proofs.first_largest.Needs as need
-use Rattle.otsu.proofs.first_largest.Needs.{then-below, else-below}
+use Rattle.otsu.proofs.first_largest.Needs.{then-replaces, else-replaces}
 
 -- The classes of the lowest level, before the loop.
 first : (c : need.After-count-n0) → Split (c .args .histogram .now .counts) (c .args .lowest) (c .args .n) (c .args .s) (c .count-n0 .result) (c .count-n0 .result * c .args .lowest)
@@ -74,20 +74,20 @@ loop-k-again c =
     let b = f .sum ∙ ap (sumOf level h 0) e in
     let t = split-top h k _ _ _ _ (c .criterion-next .result .num) f (c .criterion-next .ensures .num) in
     let d = split-bottom h k _ _ _ _ (c .criterion-next .result .den) f (c .criterion-next .ensures .den) in
-    elim (c .if-below .came) [
-      | then-below w ↦ (
+    elim (c .if-replaces .came) [
+      | then-replaces w ↦ (
         a,
         b,
-        subst (Otsu h lo (k + 1)) (sym (w .best-is)) (step-takes h lo (c .args .highest) k (c .loop-k .best) _ _ _ _ (c .pre .range) (omega arith) (c .loop-k-test .taken) (i .2) (i .3) (i .4) t d (sym (c .below .ensures) ∙ w .if-below .taken)),
+        subst (Otsu h lo (k + 1)) (sym (w .best-is)) (step-takes h lo (c .args .highest) k (c .loop-k .best) _ _ _ _ (c .pre .range) (omega arith) (c .loop-k-test .taken) (i .2) (i .3) (i .4) t d (sym (c .replaces .ensures) ∙ w .if-replaces .taken)),
         ap (λ (z : Ratio). z .num) (w .most-is) ∙ t ∙ ap (top h) (sym (w .best-is)),
         ap (λ (z : Ratio). z .den) (w .most-is) ∙ d ∙ ap (bottom h) (sym (w .best-is)),
         omega (arith, ap (λ (z : Ratio). z .den) (w .most-is)),
         omega (arith, ap (λ (z : Ratio). z .den) (w .most-is)),
       )
-      | else-below w ↦ (
+      | else-replaces w ↦ (
         a,
         b,
-        subst (Otsu h lo (k + 1)) (sym (w .best-is)) (step-keeps h lo k (c .loop-k .best) _ _ _ _ (i .2) (i .3) (i .4) t d (sym (c .below .ensures) ∙ w .if-below .left)),
+        subst (Otsu h lo (k + 1)) (sym (w .best-is)) (step-keeps h lo k (c .loop-k .best) _ _ _ _ (i .2) (i .3) (i .4) t d (sym (c .replaces .ensures) ∙ w .if-replaces .left)),
         ap (λ (z : Ratio). z .num) (w .most-is) ∙ i .3 ∙ ap (top h) (sym (w .best-is)),
         ap (λ (z : Ratio). z .den) (w .most-is) ∙ i .4 ∙ ap (bottom h) (sym (w .best-is)),
         omega (arith, ap (λ (z : Ratio). z .den) (w .most-is)),
