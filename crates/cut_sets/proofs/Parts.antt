@@ -1,8 +1,7 @@
 -- The bands of a cut set, and its sum band by band.
 use Prim.Native.Nat.{ℕ, _+_, _-_, _*_, _<_, _≤_}
 use mathlib.Core.Path.{_≡_, ap, sym, _∙_}
-use mathlib.Core.Bool.{cond, _&&_, true, false}
-use mathlib.Core.Logic.{⊎-elim}
+use mathlib.Core.Bool.{cond, _&&_, true}
 use mathlib.Core.List.{List, [], _∷_, _++_}
 use native.Mathlib.Omega.{arith}
 use lib.Dec.{eqb, leb}
@@ -11,9 +10,10 @@ use Rattle.std.specs.Options.{Cases, mapped}
 use Rattle.std.specs.declared.option.Option.{Option}
 use Rattle.std.specs.declared.option.Option.the-variants.{Some, None}
 use Rattle.std.proofs.shelf.Lists.{length-take-le, getD-take, take-more}
-use Rattle.std.proofs.shelf.Tests.{le-leb, and-from, cond-true, cases-bool, ne-eqb}
+use Rattle.std.proofs.shelf.Tests.{le-leb, and-from, cond-true, ne-eqb}
 use Rattle.histogram.specs.Totals.{sumOf, pixels}
 use Rattle.histogram.proofs.Laws.{sum-most, room}
+use Rattle.histogram.proofs.Chosen.{some-unless}
 use Rattle.cut_sets.specs.declared.band.Band.{Band}
 use Rattle.cut_sets.specs.declared.cut_set.CutSet.{CutSet}
 use Rattle.cut_sets.specs.declared.table.BandTable.{BandTable}
@@ -43,11 +43,7 @@ distance-most d h v a z b n l = omega (arith, sum-most (λ j. d j v) h 65025 a z
 
 -- ---- making a cut set
 pub some-mean : (n : ℕ) (b e : Band) → Some b ≡ cond (eqb n 0) None (Some e) → b ≡ e
-some-mean n b e h =
-    ⊎-elim
-    (λ (t : eqb n 0 ≡ true). let k : Some b ≡ None = rw t at h in let z : _≡_ {A = ℕ} 0 1 = cc in absurd (omega arith))
-    (λ (t : eqb n 0 ≡ false). let k : Some b ≡ Some e = rw t at h in cc)
-    (cases-bool (eqb n 0))
+some-mean n b e h = some-unless (eqb n 0) b e h .1
 
 pub never-none : (n : ℕ) (e : Band) → 0 < n → None ≡ cond (eqb n 0) None (Some e) → ⊥
 never-none n e p h = let k : None ≡ Some e = rw (ne-eqb n 0 (λ z. omega arith)) at h in let z : _≡_ {A = ℕ} 0 1 = cc in omega arith

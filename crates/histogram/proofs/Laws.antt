@@ -51,13 +51,11 @@ sum-join f h a b c l m =
 pub sum-same : (f g : ℕ → ℕ) (h k : List ℕ) (a z : ℕ) → ((j : ℕ) → a ≤ j → j < z → getD h j 0 * f j ≡ getD k j 0 * g j) → sumOf f h a z ≡ sumOf g k a z
 sum-same f g h k a z e =
     ⊎-elim
-    (λ (l : a ≤ z). climb (λ y. y ≤ z → sumOf f h a y ≡ sumOf g k a y) a (λ _. omega (arith, sum-none f h a a (omega arith), sum-none g k a a (omega arith)))
-    (λ y m ih n. omega (arith, sum-suc f h a y m, sum-suc g k a y m, ih (omega arith), e y m (omega arith))) z l (omega arith))
+    (λ (l : a < z).
+    climb (λ y. y ≤ z → sumOf f h a y ≡ sumOf g k a y) a (λ _. omega (arith, sum-none f h a a (omega arith), sum-none g k a a (omega arith)))
+    (λ y m ih n. omega (arith, sum-suc f h a y m, sum-suc g k a y m, ih (omega arith), e y m (omega arith))) z (omega arith) (omega arith))
     (λ (l : z ≤ a). omega (arith, sum-none f h a z l, sum-none g k a z l))
-    (either a z)
-  where
-    either : (m n : ℕ) → (m ≤ n) ⊎ (n ≤ m)
-    either m n = ⊎-elim (λ (x : m < n). inl (omega arith)) (λ (x : n ≤ m). inr x) (cases-lt m n)
+    (cases-lt a z)
 
 -- Where f is at most g at each occupied level.
 pub sum-le : (f g : ℕ → ℕ) (h : List ℕ) (a z : ℕ) → a ≤ z → ((j : ℕ) → a ≤ j → j < z → 0 < getD h j 0 → f j ≤ g j) → sumOf f h a z ≤ sumOf g h a z
@@ -91,12 +89,9 @@ pub sum-empty : (f : ℕ → ℕ) (h : List ℕ) (a z : ℕ) → ((j : ℕ) → 
 sum-empty f h a z e =
     sum-same f (λ j. 0) h h a z (λ j l m. ap (λ n. n * f j) (e j l m) ∙ zero-mul (f j) ∙ sym (mul-zero (getD h j 0)))
     ∙ ⊎-elim
-    (λ (l : a ≤ z). sum-const 0 h a z l ∙ zero-mul (sumOf one h a z))
-    (λ (l : z < a). sum-none (λ j. 0) h a z (omega arith))
-    (cases-le a z)
-  where
-    cases-le : (m n : ℕ) → (m ≤ n) ⊎ (n < m)
-    cases-le m n = ⊎-elim (λ (x : n < m). inr x) (λ (x : m ≤ n). inl x) (cases-lt n m)
+    (λ (l : a < z). sum-const 0 h a z (omega arith) ∙ zero-mul (sumOf one h a z))
+    (λ (l : z ≤ a). sum-none (λ j. 0) h a z l)
+    (cases-lt a z)
 
 -- The level sum is between the lowest and the highest level times the count.
 pub levels-high : (h : List ℕ) (a z m : ℕ) → a ≤ z → z ≤ suc m → sumOf level h a z ≤ m * sumOf one h a z

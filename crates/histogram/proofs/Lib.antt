@@ -3,5 +3,6 @@ pub mod Laws
 pub mod Weights
 pub mod Spans
 pub mod Means
+pub mod Chosen
 pub mod Walks
 mod Places

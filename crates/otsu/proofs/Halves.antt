@@ -1,19 +1,19 @@
 -- The two bands of the Otsu cut are a cut set.
 use Prim.Native.Nat.{ℕ, zero, suc, _<_, _≤_}
 use mathlib.Core.Path.{_≡_, sym, ap, _∙_, subst}
-use mathlib.Core.Bool.{true, false, cond}
-use mathlib.Core.Logic.{⊎-elim}
+use mathlib.Core.Bool.{cond}
 use mathlib.Core.List.{List}
 use native.Mathlib.Omega.{arith}
 use lib.Dec.{ltb}
 use lib.ListN.{length, set, replicate}
 use Rattle.std.specs.declared.option.Option.{Option}
 use Rattle.std.specs.declared.option.Option.the-variants.{Some, None}
-use Rattle.std.proofs.shelf.Tests.{cases-bool, ltb-false}
+use Rattle.std.proofs.shelf.Tests.{ltb-false}
 use Rattle.histogram.specs.Counts.{occupied, lowest, highest}
 use Rattle.histogram.specs.Totals.{countOf}
 use Rattle.histogram.proofs.Laws.{level-le}
 use Rattle.histogram.proofs.Means.{mean-within}
+use Rattle.histogram.proofs.Chosen.{some-unless}
 use Rattle.cut_sets.specs.declared.band.Band.{Band}
 use Rattle.cut_sets.specs.Bands.{noBand, meanBand, Inside, Rising, Cuts}
 use Rattle.otsu.specs.Otsu.{Otsu, otsuLevel}
@@ -27,10 +27,8 @@ pub record Found (h : List ℕ) (k : ℕ) : Type 0 where
 
 pub some-level : (h : List ℕ) (k : ℕ) → Some k ≡ cond (ltb (length (occupied h)) 2) None (Some (otsuLevel h)) → Found h k
 some-level h k e =
-    ⊎-elim
-    (λ (t : ltb (length (occupied h)) 2 ≡ true). let j : _≡_ {A = Option ℕ} (Some k) None = rw t at e in let z : _≡_ {A = ℕ} 0 1 = cc in absurd (omega arith))
-    (λ (t : ltb (length (occupied h)) 2 ≡ false). let j : Some k ≡ Some (otsuLevel h) = rw t at e in record { two = ltb-false (length (occupied h)) 2 t; is = cc })
-    (cases-bool (ltb (length (occupied h)) 2))
+    let c = some-unless (ltb (length (occupied h)) 2) k (otsuLevel h) e in
+    record { two = ltb-false (length (occupied h)) 2 (c .0); is = c .1 }
 
 module _ (h : List ℕ) (two : 2 ≤ length (occupied h)) where
   pub low-some : 0 < countOf h (lowest h) (otsuLevel h)

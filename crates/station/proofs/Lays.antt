@@ -2,27 +2,23 @@
 use Prim.Native.Nat.{ℕ, _+_}
 use mathlib.Core.Path.{_≡_, ap, sym, _∙_}
 use mathlib.Core.Bool.{true, false, cond}
-use mathlib.Core.Logic.{⊎-elim}
 use mathlib.Core.List.{List}
 use native.Mathlib.Omega.{arith}
 use lib.Dec.{leb}
 use Rattle.std.specs.declared.option.Option.{Option}
 use Rattle.std.specs.declared.option.Option.the-variants.{Some, None}
-use Rattle.std.proofs.shelf.Tests.{cases-bool, eq-eqb, ne-eqb, lt-ltb, le-ltb, leb-true, leb-false}
+use Rattle.std.proofs.shelf.Tests.{eq-eqb, ne-eqb, lt-ltb, le-ltb, leb-true, leb-false}
 use Rattle.faults.specs.Faults.{fault}
 use Rattle.pictures.specs.Raster.{Raster, Sound, size}
 use Rattle.histogram.specs.Counts.{histogramOf, added}
 use Rattle.histogram.specs.Totals.{pixels}
 use Rattle.histogram.proofs.Weights.{pixels-of}
+use Rattle.histogram.proofs.Chosen.{some-where}
 use Rattle.station.specs.Account.{Account, account, outcome, accepted, refused, laid}
 
 -- the pixels that were counted of a picture
 pub counted : (n : ℕ) (m h : List ℕ) → Some m ≡ cond (leb n 65536) (Some h) None → m ≡ h
-counted n m h e =
-    ⊎-elim
-    (λ (t : leb n 65536 ≡ true). let k : Some m ≡ Some h = rw t at e in cc)
-    (λ (t : leb n 65536 ≡ false). let k : _≡_ {A = Option (List ℕ)} (Some m) None = rw t at e in let z : _≡_ {A = ℕ} 0 1 = cc in absurd (omega arith))
-    (cases-bool (leb n 65536))
+counted n m h e = some-where (leb n 65536) m h e .1
 
 module _ (a : Account) (p : Raster) (s : Sound p) (m : List ℕ) (e : Some m ≡ cond (leb (size p) 65536) (Some (histogramOf (p .levels))) None) where
   many : pixels m ≡ size p
