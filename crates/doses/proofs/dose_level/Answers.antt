@@ -3,4 +3,4 @@ use Rattle.doses.proofs.Doses.{level-test}
 use Rattle.doses.proofs.dose_level.Goals as goal
 
 pub returns : goal.returns
-returns c = c.saturating-f32-to-u8.ensures ∙ level-test c.args.sample
+returns c = c.saturating_f32_to_u8.ensures ∙ level-test c.args.sample

@@ -18,11 +18,11 @@ next c =
     split-next c.args.histogram.now.counts c.args.lowest c.args.highest c.args.n c.args.s c.requires.range c.requires.count.0 c.requires.count.1 c.requires.sum
     c.loop-k.k c.loop-k.n0 c.loop-k.s0 c.count-here.result (omega arith) c.loop-k-test.true c.loop-k.invariant.0 c.loop-k.invariant.1 c.count-here.ensures
 
-pub overflow-sub-n : goal.overflow-sub-n
-overflow-sub-n c = (first c).low
+pub overflow_sub-n : goal.overflow_sub-n
+overflow_sub-n c = (first c).low
 
-pub overflow-sub-s : goal.overflow-sub-s
-overflow-sub-s c = (first c).low_sum
+pub overflow_sub-s : goal.overflow_sub-s
+overflow_sub-s c = (first c).low_sum
 
 pub criterion-most-requires : goal.criterion-most-requires
 criterion-most-requires c = (first c).ranges
@@ -42,17 +42,17 @@ loop-k-init c =
       omega arith,
     )
 
-pub overflow-add-n0 : goal.overflow-add-n0
-overflow-add-n0 c = let f = next c in let k : c.loop-k.n0 + c.count-here.result ≤ 65536 = omega (arith, f.low) in search rules
+pub overflow_add-n0 : goal.overflow_add-n0
+overflow_add-n0 c = let f = next c in let k : c.loop-k.n0 + c.count-here.result ≤ 65536 = omega (arith, f.low) in search rules
 
-pub overflow-add-s0 : goal.overflow-add-s0
-overflow-add-s0 c = let f = next c in let k : c.loop-k.s0 + c.count-here.result * c.loop-k.k ≤ 255 * 65536 = f.small in search rules
+pub overflow_add-s0 : goal.overflow_add-s0
+overflow_add-s0 c = let f = next c in let k : c.loop-k.s0 + c.count-here.result * c.loop-k.k ≤ 255 * 65536 = f.small in search rules
 
-pub overflow-sub-n-in-loop-k : goal.overflow-sub-n-in-loop-k
-overflow-sub-n-in-loop-k c = (next c).low
+pub overflow_sub-n-in-loop-k : goal.overflow_sub-n-in-loop-k
+overflow_sub-n-in-loop-k c = (next c).low
 
-pub overflow-sub-s-in-loop-k : goal.overflow-sub-s-in-loop-k
-overflow-sub-s-in-loop-k c = (next c).low_sum
+pub overflow_sub-s-in-loop-k : goal.overflow_sub-s-in-loop-k
+overflow_sub-s-in-loop-k c = (next c).low_sum
 
 pub criterion-next-requires : goal.criterion-next-requires
 criterion-next-requires c = (next c).ranges

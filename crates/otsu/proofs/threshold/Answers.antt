@@ -10,8 +10,8 @@ use Rattle.otsu.proofs.Classes.{range}
 use Rattle.otsu.proofs.Choice.{otsu-level, otsu-only}
 use Rattle.otsu.proofs.threshold.Goals as goal
 
-pub first-largest-requires : goal.first-largest-requires
-first-largest-requires c =
+pub first_largest-requires : goal.first_largest-requires
+first_largest-requires c =
     let t = c.args.tally.now in
     let h = counts_of t in
     let e = c.histogram-histogram.ensures in
@@ -31,9 +31,9 @@ returns c =
     let e = c.histogram-histogram.ensures in
     let x = c.extent-extent.ensures ∙ ap extent_of e in
     let l : 2 ≤ length (occupied h) = omega (arith, c.if-extent-lt2.false, ap (λ z. z.occupied) x) in
-    let o : Otsu h (lowest h) (highest h) c.first-largest.result =
-    subst (λ z. Otsu h z.lowest z.highest c.first-largest.result) x
-    (subst (λ k. Otsu k c.extent-extent.result.lowest c.extent-extent.result.highest c.first-largest.result) e c.first-largest.ensures) in
+    let o : Otsu h (lowest h) (highest h) c.first_largest.result =
+    subst (λ z. Otsu h z.lowest z.highest c.first_largest.result) x
+    (subst (λ k. Otsu k c.extent-extent.result.lowest c.extent-extent.result.highest c.first_largest.result) e c.first_largest.ensures) in
     record {
       value = ap (λ (k : ℕ). Some k) (otsu-only h (lowest h) (highest h) _ _ o (otsu-level h l))
           ∙ sym (cond-false (ltb (length (occupied h)) 2) None (Some (otsu_level h)) (le-ltb (length (occupied h)) 2 l));

@@ -19,9 +19,9 @@ loop-x-preserved g c =
     let f = painted (bands_of c.args.set.now) in
     elim c.match-level.branch [
       | in-Some w ↦ written-pixel f p (g.P.Picture.sound c.args.picture.now) c.columns-columns.result c.loop-x.x c.loop-y.y w.in-Some.level c.columns-columns.ensures w.in-Some.ensures
-          c.new-palette.result.levels w.level-of.result c.new-palette.ensures w.level-of.ensures
+          c.new-palette.result.levels w.level_of.result c.new-palette.ensures w.level_of.ensures
           c.loop-y.buffer c.loop-x.buffer c.match-level.buffer (omega (arith, c.requires)) w.buffer-is c.loop-x.invariant
-      | in-default w ↦ absurd (never-none p c.loop-x.x c.loop-y.y (omega arith) (omega arith) w.in-default.ensures)
+      | in-default w ↦ absurd (never-none p c.loop-x.x c.loop-y.y (omega arith) (omega arith) w.in_default.ensures)
     ]
 
 pub loop-y-preserved : goal.loop-y-preserved

@@ -24,8 +24,8 @@ next g c =
     ∙ ap (λ n. sum_of (λ i. d i v) h c.args.band.low j + get_or h j 0 * n) c.distance.ensures
     ∙ sym (sum_more (λ i. d i v) h c.args.band.low j (omega arith))
 
-pub overflow-add-sum : goal.overflow-add-sum
-overflow-add-sum g c =
+pub overflow_add-sum : goal.overflow_add-sum
+overflow_add-sum g c =
     let t = c.args.tally.now in
     let r = c.args.rule.now in
     let v = c.args.band.level in

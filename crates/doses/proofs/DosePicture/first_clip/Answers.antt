@@ -13,11 +13,11 @@ returns-after-search c =
     let w = subst (FirstClip n m s.samples.now) (sym c.search.invariant.1) o in
     record { value = first-clip n m s.samples.now c.search.found· w; words = w }
 
-pub returns-then-clipped-at : goal.returns-then-clipped-at
-returns-then-clipped-at c =
+pub returns-then-clipped_at : goal.returns-then-clipped_at
+returns-then-clipped_at c =
     let s = c.args.self.now in
     let n = columns_in s.grid in
     let m = rows_in s.grid in
     let w = clip-found n m c.columns-columns.result s.samples.now c.columns-columns.ensures c.search.y c.loop-x.x c.loop-x-test.true (omega arith)
-    c.if-clipped-at.ensures c.loop-x.invariant.0 in
+    c.if-clipped_at.ensures c.loop-x.invariant.0 in
     record { value = first-clip n m s.samples.now (Some (record { x = c.loop-x.x; y = c.search.y })) w; words = w }

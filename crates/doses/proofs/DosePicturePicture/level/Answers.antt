@@ -8,6 +8,6 @@ pub returns : goal.returns
 returns c =
     let s = c.args.self.now in
     let ss = s.samples.now in
-    let at = c.in-ok-at.at in
-    grid-at s.grid (map dose_level_of ss) c.args.x c.args.y at c.level-at.result c.in-ok-at.ensures
-    (c.level-at.ensures ∙ sym (dose-at ss at)) (omega (arith, c.level-at.type-inv))
+    let at = c.in_ok-at.at in
+    grid-at s.grid (map dose_level_of ss) c.args.x c.args.y at c.level_at.result c.in_ok-at.ensures
+    (c.level_at.ensures ∙ sym (dose-at ss at)) (omega (arith, c.level_at.type_inv))

@@ -9,4 +9,4 @@ returns c =
     let f = c.args.fault in
     let l : length (line (codes "fault") (f.layer ∷ (f.number ∷ (f.detail ∷ [])))) ≤ 69 =
     omega (arith, length-line (codes "fault") (f.layer ∷ (f.number ∷ (f.detail ∷ []))), length-decimal-u64 f.layer (omega arith), length-decimal-u64 f.number (omega arith), length-decimal-u64 f.detail (omega arith)) in
-    pushed_whole [] (line (codes "fault") (f.layer ∷ (f.number ∷ (f.detail ∷ [])))) (text_of c.new-text.result) (text_of c.push-line.new.self) c.new-text.ensures c.push-line.ensures (omega arith)
+    pushed_whole [] (line (codes "fault") (f.layer ∷ (f.number ∷ (f.detail ∷ [])))) (text_of c.new-text.result) (text_of c.push_line.new.self) c.new-text.ensures c.push_line.ensures (omega arith)

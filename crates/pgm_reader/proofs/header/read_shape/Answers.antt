@@ -10,13 +10,13 @@ loop-i-init c = let new = c.new-machine in reached-none c.args.rest.now new.resu
 
 pub loop-i-preserved : goal.loop-i-preserved
 loop-i-preserved c =
-    reached-more c.loop-i.machine c.step.new.self c.loop-i.i c.args.rest.now c.loop-i-test.true c.loop-i.invariant c.in-ok-step.ensures c.in-default.not-Done
+    reached-more c.loop-i.machine c.step.new.self c.loop-i.i c.args.rest.now c.loop-i-test.true c.loop-i.invariant c.in_ok-step.ensures c.in_default.not-Done
 
 pub returns-in-Done : goal.returns-in-Done
 returns-in-Done c =
-    reached-done c.loop-i.machine c.step.new.self c.loop-i.i c.args.rest.now c.loop-i-test.true c.loop-i.invariant c.in-ok-step.ensures c.in-Done.is
+    reached-done c.loop-i.machine c.step.new.self c.loop-i.i c.args.rest.now c.loop-i-test.true c.loop-i.invariant c.in_ok-step.ensures c.in-Done.is
 
-pub returns-in-err-step : goal.returns-in-err-step
-returns-in-err-step c =
-    let p = err_from_is_err_and c.from-residual.result c.from-residual.ensures.1 in
-    ap (told read_fault) p.1 ∙ ap (λ f. Err (read_fault f)) p.2 ∙ reached-fault c.loop-i.machine _ c.loop-i.i c.args.rest.now c.loop-i-test.true c.loop-i.invariant c.in-err-step.ensures
+pub returns-in_err-step : goal.returns-in_err-step
+returns-in_err-step c =
+    let p = err_from_is_err_and c.from_residual.result c.from_residual.ensures.1 in
+    ap (told read_fault) p.1 ∙ ap (λ f. Err (read_fault f)) p.2 ∙ reached-fault c.loop-i.machine _ c.loop-i.i c.args.rest.now c.loop-i-test.true c.loop-i.invariant c.in_err-step.ensures

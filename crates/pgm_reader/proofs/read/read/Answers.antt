@@ -12,23 +12,23 @@ abbrev not-p5 : Result Header ReadFault
 not-p5 = Err NotP5
 
 -- no `P5`: at most one byte, or another first or second one
-pub returns-in-default : goal.returns-in-default
+pub returns-in_default : goal.returns-in_default
 unfolding image_of
-returns-in-default c =
+returns-in_default c =
     let bs = c.args.bytes.now in
     let e : told read_fault not-p5 ≡ image_of bs = search rules in
     record { answer = e; grammar = maps-told bs not-p5 e; within = tt }
 
-pub returns-in-default·2 : goal.returns-in-default·2
+pub returns-in_default-2 : goal.returns-in_default-2
 unfolding image_of
-returns-in-default·2 c =
+returns-in_default-2 c =
     let bs = c.args.bytes.now in
     let e : told read_fault not-p5 ≡ image_of bs = search rules in
     record { answer = e; grammar = maps-told bs not-p5 e; within = tt }
 
-pub returns-in-default·3 : goal.returns-in-default·3
+pub returns-in_default-3 : goal.returns-in_default-3
 unfolding image_of
-returns-in-default·3 c =
+returns-in_default-3 c =
     let bs = c.args.bytes.now in
     let e : told read_fault not-p5 ≡ image_of bs = search rules in
     record { answer = e; grammar = maps-told bs not-p5 e; within = tt }

@@ -8,7 +8,7 @@ loop-i-preserved g c =
     let s = c.args.self.now in
     let d = g.R.DistanceRule.table c.args.rule.now in
     let h = counts_of c.args.tally.now in
-    let e = c.band-sum-sum.ensures in (
+    let e = c.band_sum-sum.ensures in (
       omega (arith, c.loop-i.invariant.0, e.value, cut-more d h s.bands.places c.loop-i.i (omega (arith, s.bands.full, s.few))),
       omega (arith, c.loop-i.invariant.1, e.bound),
     )

@@ -23,7 +23,7 @@ loop-x-preserved g c =
     elim c.match-level.branch [
       | in-Some w ↦ counted-more p (g.P.Picture.sound c.args.picture.now) c.columns-columns.result c.loop-x.x c.loop-y.y w.in-Some.level c.columns-columns.ensures w.in-Some.ensures
           c.loop-x.histogram.counts c.match-level.histogram.counts c.loop-x.invariant (ap (λ t. t.counts) w.histogram-is ∙ w.put.ensures)
-      | in-default w ↦ absurd (never-none p c.loop-x.x c.loop-y.y (omega arith) (omega arith) w.in-default.ensures)
+      | in-default w ↦ absurd (never-none p c.loop-x.x c.loop-y.y (omega arith) (omega arith) w.in_default.ensures)
     ]
 
 pub returns : goal.returns

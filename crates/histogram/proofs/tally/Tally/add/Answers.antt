@@ -10,8 +10,8 @@ add-requires c = λ k.
     let m = c.args.more.now in
     omega (arith, count-le t.histogram.counts k t.long, count-le m.histogram.counts k m.long, t.adds, m.adds, t.few, m.few)
 
-pub invariant-of-self : goal.invariant-of-self
-invariant-of-self c =
+pub invariant_of-self : goal.invariant_of-self
+invariant_of-self c =
     let t = c.args.self.now in
     let m = c.args.more.now in
     let e = c.add.ensures in

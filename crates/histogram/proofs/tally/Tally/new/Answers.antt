@@ -4,5 +4,5 @@ use Rattle.histogram.proofs.Eachs.{zeros-long}
 use Rattle.histogram.proofs.Weights.{pixels-zeros}
 use Rattle.histogram.proofs.tally.Tally.new.Goals as goal
 
-pub invariant-of-result : goal.invariant-of-result
-invariant-of-result c = (ap length c.new.ensures ∙ zeros-long, (ap pixels c.new.ensures ∙ pixels-zeros, (omega arith, tt)))
+pub invariant_of-result : goal.invariant_of-result
+invariant_of-result c = (ap length c.new.ensures ∙ zeros-long, (ap pixels c.new.ensures ∙ pixels-zeros, (omega arith, tt)))

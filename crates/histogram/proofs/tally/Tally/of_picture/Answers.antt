@@ -5,10 +5,10 @@ use Rattle.histogram.proofs.Eachs.{each_long}
 use Rattle.histogram.proofs.Weights.{pixels-of}
 use Rattle.histogram.proofs.tally.Tally.of_picture.Goals as goal
 
-pub invariant-of-result : goal.invariant-of-result
-invariant-of-result g c =
+pub invariant_of-result : goal.invariant_of-result
+invariant_of-result g c =
     let p = c.args.picture.now in
-    let e = c.of-picture.ensures in (
+    let e = c.of_picture.ensures in (
       ap length e ∙ each_long (count (g.P.Picture.shown p).levels),
-      (ap pixels e ∙ pixels-of (g.P.Picture.shown p) (g.P.Picture.sound p) ∙ sym c.size-of-size.ensures.is, (omega arith, tt)),
+      (ap pixels e ∙ pixels-of (g.P.Picture.shown p) (g.P.Picture.sound p) ∙ sym c.size_of-size.ensures.is, (omega arith, tt)),
     )

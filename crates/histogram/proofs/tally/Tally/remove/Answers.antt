@@ -4,22 +4,22 @@ use Rattle.histogram.proofs.Eachs.{each_long}
 use Rattle.histogram.proofs.Laws.{sum-removed}
 use Rattle.histogram.proofs.tally.Tally.remove.Goals as goal
 
-pub overflow-cast-self : goal.overflow-cast-self
-overflow-cast-self c =
+pub overflow_cast-self : goal.overflow_cast-self
+overflow_cast-self c =
     let t = c.args.self.now in
-    let s = sum-removed one t.histogram.counts c.args.less.now.counts c.in-default.ensures.lowest in
+    let s = sum-removed one t.histogram.counts c.args.less.now.counts c.in_default.ensures.lowest in
     let k : c.total.result ≤ 65536 = omega (arith, s, t.adds, t.few, c.total.ensures) in
     search rules
 
-pub overflow-sub-self : goal.overflow-sub-self
-overflow-sub-self c =
+pub overflow_sub-self : goal.overflow_sub-self
+overflow_sub-self c =
     let t = c.args.self.now in
-    let s = sum-removed one t.histogram.counts c.args.less.now.counts c.in-default.ensures.lowest in
+    let s = sum-removed one t.histogram.counts c.args.less.now.counts c.in_default.ensures.lowest in
     omega (arith, s, t.adds, c.total.ensures)
 
-pub invariant-of-self : goal.invariant-of-self
-invariant-of-self c =
+pub invariant_of-self : goal.invariant_of-self
+invariant_of-self c =
     let t = c.args.self.now in
     let e = c.subtract.ensures in
-    let s = sum-removed one t.histogram.counts c.args.less.now.counts c.in-default.ensures.lowest in
+    let s = sum-removed one t.histogram.counts c.args.less.now.counts c.in_default.ensures.lowest in
     (ap length e ∙ each_long _, (omega (arith, ap pixels e, s, t.adds, c.total.ensures), (omega (arith, t.few), tt)))

@@ -10,8 +10,8 @@ loop-level-init c =
     let a = c.args.low in
     (sym (sum-none one h a a (omega arith)), sym (sum-none level h a a (omega arith)), omega arith)
 
-pub overflow-add-count : goal.overflow-add-count
-overflow-add-count c =
+pub overflow_add-count : goal.overflow_add-count
+overflow_add-count c =
     let t = c.args.self.now in
     let h = t.histogram.counts in
     let j = c.loop-level.level in
@@ -19,16 +19,16 @@ overflow-add-count c =
     let k : c.loop-level.count + get_or h j 0 ≤ 65536 = omega (arith, r.few, t.adds, t.few, sum_more one h c.args.low j (omega arith), mul-one (get_or h j 0), c.loop-level.invariant.0) in
     search rules
 
-pub overflow-mul-levels : goal.overflow-mul-levels
-overflow-mul-levels c =
+pub overflow_mul-levels : goal.overflow_mul-levels
+overflow_mul-levels c =
     let t = c.args.self.now in
     let h = t.histogram.counts in
     let j = c.loop-level.level in
     let k = mul-le (get_or h j 0) j 65536 255 (omega (arith, count-le h j t.long, t.adds, t.few)) (omega arith) in
     search rules
 
-pub overflow-add-levels : goal.overflow-add-levels
-overflow-add-levels c =
+pub overflow_add-levels : goal.overflow_add-levels
+overflow_add-levels c =
     let t = c.args.self.now in
     let h = t.histogram.counts in
     let j = c.loop-level.level in
@@ -45,8 +45,8 @@ loop-level-preserved c =
       omega arith,
     )
 
-pub invariant-of-result : goal.invariant-of-result
-invariant-of-result c =
+pub invariant_of-result : goal.invariant_of-result
+invariant_of-result c =
     let t = c.args.self.now in
     let r = room t.histogram.counts c.args.low c.loop-level.level (omega arith) in
     (omega (arith, r.few, t.adds, t.few, c.loop-level.invariant.0), (omega (arith, r.dim, c.loop-level.invariant.0, c.loop-level.invariant.1), tt))

@@ -10,7 +10,7 @@ loop-level-preserved c =
     let i = c.loop-level.level in
     let l : i < length c.loop-level.levels = omega (arith, c.loop-level.invariant.0) in (
       length-set _ _ _ ∙ c.loop-level.invariant.0,
-      below_more _ _ (λ k h. let ne : k ≢ i = omega arith in rw get_or-set_other (c.loop-level.invariant.1 k h)) (rw get_or-set_same c.level-of.ensures.value),
+      below_more _ _ (λ k h. let ne : k ≢ i = omega arith in rw get_or-set_other (c.loop-level.invariant.1 k h)) (rw get_or-set_same c.level_of.ensures.value),
     )
 
 pub returns : goal.returns

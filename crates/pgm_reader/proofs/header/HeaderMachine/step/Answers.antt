@@ -15,7 +15,7 @@ returns-in-Gap-Digit c =
 
 pub returns-in-Digits-Digit : goal.returns-in-Digits-Digit
 returns-in-Digits-Digit c =
-    λ bs. let h = c.in-Digits-Digit in on-digit c.args.self.now _ _ h.d c.saturating-add-self.result bs h.is-0 (sym h.ensures) (omega arith)
+    λ bs. let h = c.in-Digits-Digit in on-digit c.args.self.now _ _ h.d c.saturating_add-self.result bs h.is-0 (sym h.ensures) (omega arith)
 
 pub returns-in-Digits-White : goal.returns-in-Digits-White
 returns-in-Digits-White c = let h = c.in-Digits-White in on-closed c.args.self.now c.close.new.self _ _ c.close.result h.is-0 (sym h.ensures) c.close.ensures

@@ -5,4 +5,4 @@ use Rattle.pictures.proofs.bytes.BytePicture.new.Goals as goal
 pub returns : goal.returns
 returns c =
     showing-bytes c.args.columns c.min-rows.result c.args.bytes.now c.if-columns-eq0.false c.if-columns-gt-MOST.false
-    c.min-rows.ensures (λ i. omega (arith, c.type-inv.bytes i))
+    c.min-rows.ensures (λ i. omega (arith, c.type_inv.bytes i))

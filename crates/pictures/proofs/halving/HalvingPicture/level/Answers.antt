@@ -6,8 +6,8 @@ pub returns-then-y-rows : goal.returns-then-y-rows
 returns-then-y-rows g c =
     let p = g.P.Picture.shown c.args.self.now.below in
     ap (λ (v : ℕ). Some v) c.quarter.ensures
-    ∙ halved-inside p c.args.x c.args.y c.unwrap-or-a.result c.unwrap-or-b.result c.unwrap-or-c.result c.unwrap-or-d.result (omega arith) (omega arith)
-    (or-zero p _ _ _ (omega arith) (omega arith) _ c.level.ensures c.unwrap-or-a.ensures)
-    (or-zero p _ _ _ (omega arith) (omega arith) _ c.level-then-y-rows.ensures c.unwrap-or-b.ensures)
-    (or-zero p _ _ _ (omega arith) (omega arith) _ c.level-then-y-rows-2.ensures c.unwrap-or-c.ensures)
-    (or-zero p _ _ _ (omega arith) (omega arith) _ c.level-then-y-rows-3.ensures c.unwrap-or-d.ensures)
+    ∙ halved-inside p c.args.x c.args.y c.unwrap_or-a.result c.unwrap_or-b.result c.unwrap_or-c.result c.unwrap_or-d.result (omega arith) (omega arith)
+    (or-zero p _ _ _ (omega arith) (omega arith) _ c.level.ensures c.unwrap_or-a.ensures)
+    (or-zero p _ _ _ (omega arith) (omega arith) _ c.level-then-y-rows.ensures c.unwrap_or-b.ensures)
+    (or-zero p _ _ _ (omega arith) (omega arith) _ c.level-then-y-rows-2.ensures c.unwrap_or-c.ensures)
+    (or-zero p _ _ _ (omega arith) (omega arith) _ c.level-then-y-rows-3.ensures c.unwrap_or-d.ensures)

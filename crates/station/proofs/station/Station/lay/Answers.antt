@@ -14,14 +14,14 @@ returns-then-total-eq0 g c =
       rule = refl;
     }
 
-pub returns-in-err-add : goal.returns-in-err-add
-returns-in-err-add g c =
+pub returns-in_err-add : goal.returns-in_err-add
+returns-in_err-add g c =
     let p = c.args.picture.now in
     let a = account_of c.args.self.now in
     record {
       outcome =
-          refused-by a (counts_of c.add.new.self) TooMany c.from-residual.result c.from-residual.ensures.1 c.in-err-add.ensures.after
-          ∙ laid-over a (g.P.Picture.shown p) (g.P.Picture.sound p) (counts_of c.in-Some.more) c.in-Some.ensures (λ z. c.if-total-eq0.false (c.total.ensures ∙ z)) c.in-err-add.ensures.answer;
+          refused-by a (counts_of c.add.new.self) TooMany c.from_residual.result c.from_residual.ensures.1 c.in_err-add.ensures.after
+          ∙ laid-over a (g.P.Picture.shown p) (g.P.Picture.sound p) (counts_of c.in-Some.more) c.in-Some.ensures (λ z. c.if-total-eq0.false (c.total.ensures ∙ z)) c.in_err-add.ensures.answer;
       rule = refl;
     }
 
@@ -30,6 +30,6 @@ returns g c =
     let p = c.args.picture.now in
     record {
       outcome = laid_done (account_of c.args.self.now) (g.P.Picture.shown p) (g.P.Picture.sound p) (counts_of c.in-Some.more) c.in-Some.ensures (counts_of c.add.new.self)
-          (λ z. c.if-total-eq0.false (c.total.ensures ∙ z)) c.in-ok-add.ensures.answer c.in-ok-add.ensures.after;
+          (λ z. c.if-total-eq0.false (c.total.ensures ∙ z)) c.in_ok-add.ensures.answer c.in_ok-add.ensures.after;
       rule = refl;
     }

@@ -10,19 +10,19 @@ pub returns-then-total-eq0 : goal.returns-then-total-eq0
 returns-then-total-eq0 g c =
     let p = c.args.picture.now in
     record {
-      outcome = lifted-none (account_of c.args.self.now) (g.P.Picture.shown p) (g.P.Picture.sound p) c.of-picture-less.result.counts c.of-picture-less.ensures (sym c.total.ensures ∙ c.if-total-eq0.true);
+      outcome = lifted-none (account_of c.args.self.now) (g.P.Picture.shown p) (g.P.Picture.sound p) c.of_picture-less.result.counts c.of_picture-less.ensures (sym c.total.ensures ∙ c.if-total-eq0.true);
       rule = refl;
     }
 
-pub returns-in-err-remove : goal.returns-in-err-remove
-returns-in-err-remove g c =
+pub returns-in_err-remove : goal.returns-in_err-remove
+returns-in_err-remove g c =
     let p = c.args.picture.now in
     let a = account_of c.args.self.now in
-    let v = c.in-err-remove.field-0.0.level in
+    let v = c.in_err-remove.field-0.0.level in
     record {
       outcome =
-          refused-by a (counts_of c.remove.new.self) (Lacking v) c.from-residual.result c.from-residual.ensures.1 c.in-err-remove.ensures.after
-          ∙ lifted-lacking a (g.P.Picture.shown p) (g.P.Picture.sound p) c.of-picture-less.result.counts c.of-picture-less.ensures v (λ z. c.if-total-eq0.false (c.total.ensures ∙ z)) c.in-err-remove.ensures.answer;
+          refused-by a (counts_of c.remove.new.self) (Lacking v) c.from_residual.result c.from_residual.ensures.1 c.in_err-remove.ensures.after
+          ∙ lifted-lacking a (g.P.Picture.shown p) (g.P.Picture.sound p) c.of_picture-less.result.counts c.of_picture-less.ensures v (λ z. c.if-total-eq0.false (c.total.ensures ∙ z)) c.in_err-remove.ensures.answer;
       rule = refl;
     }
 
@@ -30,7 +30,7 @@ pub returns : goal.returns
 returns g c =
     let p = c.args.picture.now in
     record {
-      outcome = lifted-done (account_of c.args.self.now) (g.P.Picture.shown p) (g.P.Picture.sound p) c.of-picture-less.result.counts c.of-picture-less.ensures (counts_of c.remove.new.self)
-          (λ z. c.if-total-eq0.false (c.total.ensures ∙ z)) c.in-ok-remove.ensures.answer c.in-ok-remove.ensures.after;
+      outcome = lifted-done (account_of c.args.self.now) (g.P.Picture.shown p) (g.P.Picture.sound p) c.of_picture-less.result.counts c.of_picture-less.ensures (counts_of c.remove.new.self)
+          (λ z. c.if-total-eq0.false (c.total.ensures ∙ z)) c.in_ok-remove.ensures.answer c.in_ok-remove.ensures.after;
       rule = refl;
     }

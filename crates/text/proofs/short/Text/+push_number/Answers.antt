@@ -12,12 +12,12 @@ returns t c =
     let last = (48 + n % 10) ∷ [] in
     elim c.if-n-ge10.branch [
       | then-n-ge10 w ↦
-          c.push-byte.ensures
-          ∙ clipped-then start (text_of c.if-n-ge10.self) (decimal (n / 10)) last (ap text_of w.self-is ∙ w.push-number.ensures)
+          c.push_byte.ensures
+          ∙ clipped-then start (text_of c.if-n-ge10.self) (decimal (n / 10)) last (ap text_of w.self-is ∙ w.push_number.ensures)
           ∙ ap (λ l. clipped (start ++ l)) (sym (decimal_step n w.if-n-ge10.true (omega arith)))
       | else-n-ge10 w ↦
           let small : n % 10 ≡ n = omega (arith, w.if-n-ge10.false) in
-          c.push-byte.ensures
+          c.push_byte.ensures
           ∙ ap (λ s. clipped (text_of s ++ last)) w.self-is
           ∙ ap (λ k. clipped (start ++ ((48 + k) ∷ []))) small
           ∙ ap (λ l. clipped (start ++ l)) (sym (decimal_digit n w.if-n-ge10.false))

@@ -12,7 +12,7 @@ loop-byte-preserved c =
     let start = text_of c.args.self.now in
     let bytes = c.args.bytes.now in
     let i = c.loop-byte.byte-index in
-    let one : text_of c.push-byte.new.self ≡ clipped (text_of c.loop-byte.self ++ (get_or bytes i 0 ∷ [])) = c.push-byte.ensures in
+    let one : text_of c.push_byte.new.self ≡ clipped (text_of c.loop-byte.self ++ (get_or bytes i 0 ∷ [])) = c.push_byte.ensures in
     one
     ∙ clipped-then start (text_of c.loop-byte.self) (take i bytes) (get_or bytes i 0 ∷ []) c.loop-byte.invariant
     ∙ ap (λ l. clipped (start ++ l)) (sym (take_more bytes i 0 c.loop-byte-test.true))
