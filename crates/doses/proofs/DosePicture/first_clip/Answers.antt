@@ -11,7 +11,7 @@ returns-after-search c =
     let m = rows_in s.grid in
     let o = clear-all n m c.columns-columns.result s.samples.now c.columns-columns.ensures c.search.y (omega arith) c.search.invariant.0 in
     let w = subst (FirstClip n m s.samples.now) (sym c.search.invariant.1) o in
-    record { value = first-clip n m s.samples.now c.search.found· w; words = w }
+    record { value = first-clip n m s.samples.now c.search.found-1 w; words = w }
 
 pub returns-then-clipped_at : goal.returns-then-clipped_at
 returns-then-clipped_at c =

@@ -3,7 +3,7 @@ use Rattle.pictures.proofs.Places.{never-none}
 use Rattle.histogram.specs.Counts.{histogram_of}
 use Rattle.histogram.proofs.Walks.{seen, counted_none, counted-more, counted-all, counted-few}
 use Rattle.histogram.proofs.histogram.Histogram.of_picture.Goals as goal
-use Rattle.histogram.proofs.histogram.Histogram.of_picture.Goals.{in-Some, in-default}
+use Rattle.histogram.proofs.histogram.Histogram.of_picture.Goals.{in-Some, in_default}
 
 pub loop-y-init : goal.loop-y-init
 loop-y-init g c = c.new-histogram.ensures ∙ counted_none c.columns-columns.result (g.P.Picture.shown c.args.picture.now).levels
@@ -23,7 +23,7 @@ loop-x-preserved g c =
     elim c.match-level.branch [
       | in-Some w ↦ counted-more p (g.P.Picture.sound c.args.picture.now) c.columns-columns.result c.loop-x.x c.loop-y.y w.in-Some.level c.columns-columns.ensures w.in-Some.ensures
           c.loop-x.histogram.counts c.match-level.histogram.counts c.loop-x.invariant (ap (λ t. t.counts) w.histogram-is ∙ w.put.ensures)
-      | in-default w ↦ absurd (never-none p c.loop-x.x c.loop-y.y (omega arith) (omega arith) w.in_default.ensures)
+      | in_default w ↦ absurd (never-none p c.loop-x.x c.loop-y.y (omega arith) (omega arith) w.in_default.ensures)
     ]
 
 pub returns : goal.returns

@@ -16,4 +16,4 @@ invariant_of-self c =
     let m = c.args.more.now in
     let e = c.add.ensures in
     let s = ap pixels e ∙ sum_added one t.histogram.counts m.histogram.counts in
-    (ap length e ∙ each_long _, (omega (arith, s, t.adds, m.adds), (omega arith, tt)))
+    record { long = ap length e ∙ each_long _; adds = omega (arith, s, t.adds, m.adds); few = omega arith }

@@ -5,4 +5,4 @@ use Rattle.histogram.proofs.Weights.{pixels-zeros}
 use Rattle.histogram.proofs.tally.Tally.new.Goals as goal
 
 pub invariant_of-result : goal.invariant_of-result
-invariant_of-result c = (ap length c.new.ensures ∙ zeros-long, (ap pixels c.new.ensures ∙ pixels-zeros, (omega arith, tt)))
+invariant_of-result c = record { long = ap length c.new.ensures ∙ zeros-long; adds = ap pixels c.new.ensures ∙ pixels-zeros; few = omega arith }

@@ -8,7 +8,9 @@ use Rattle.histogram.proofs.tally.Tally.of_picture.Goals as goal
 pub invariant_of-result : goal.invariant_of-result
 invariant_of-result g c =
     let p = c.args.picture.now in
-    let e = c.of_picture.ensures in (
-      ap length e ∙ each_long (count (g.P.Picture.shown p).levels),
-      (ap pixels e ∙ pixels-of (g.P.Picture.shown p) (g.P.Picture.sound p) ∙ sym c.size_of-size.ensures.is, (omega arith, tt)),
-    )
+    let e = c.of_picture.ensures in
+    record {
+      long = ap length e ∙ each_long (count (g.P.Picture.shown p).levels);
+      adds = ap pixels e ∙ pixels-of (g.P.Picture.shown p) (g.P.Picture.sound p) ∙ sym c.size_of-size.ensures.is;
+      few = omega arith;
+    }

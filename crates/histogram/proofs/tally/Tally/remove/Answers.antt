@@ -22,4 +22,4 @@ invariant_of-self c =
     let t = c.args.self.now in
     let e = c.subtract.ensures in
     let s = sum-removed one t.histogram.counts c.args.less.now.counts c.in_default.ensures.lowest in
-    (ap length e ∙ each_long _, (omega (arith, ap pixels e, s, t.adds, c.total.ensures), (omega (arith, t.few), tt)))
+    record { long = ap length e ∙ each_long _; adds = omega (arith, ap pixels e, s, t.adds, c.total.ensures); few = omega (arith, t.few) }

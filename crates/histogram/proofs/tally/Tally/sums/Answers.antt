@@ -49,7 +49,7 @@ pub invariant_of-result : goal.invariant_of-result
 invariant_of-result c =
     let t = c.args.self.now in
     let r = room t.histogram.counts c.args.low c.loop-level.level (omega arith) in
-    (omega (arith, r.few, t.adds, t.few, c.loop-level.invariant.0), (omega (arith, r.dim, c.loop-level.invariant.0, c.loop-level.invariant.1), tt))
+    record { few = omega (arith, r.few, t.adds, t.few, c.loop-level.invariant.0); dim = omega (arith, r.dim, c.loop-level.invariant.0, c.loop-level.invariant.1) }
 
 pub returns : goal.returns
 returns c =
