@@ -25,7 +25,7 @@ pub overflow_sub-s : goal.overflow_sub-s
 overflow_sub-s c = (first c).low_sum
 
 pub criterion-most-requires : goal.criterion-most-requires
-criterion-most-requires c = (first c).ranges
+criterion-most-requires c = (first c).fits
 
 pub loop-k-init : goal.loop-k-init
 loop-k-init c =
@@ -55,7 +55,7 @@ pub overflow_sub-s-in-loop-k : goal.overflow_sub-s-in-loop-k
 overflow_sub-s-in-loop-k c = (next c).low_sum
 
 pub criterion-next-requires : goal.criterion-next-requires
-criterion-next-requires c = (next c).ranges
+criterion-next-requires c = (next c).fits
 
 pub loop-k-preserved : goal.loop-k-preserved
 loop-k-preserved c =

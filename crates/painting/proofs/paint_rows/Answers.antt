@@ -5,7 +5,7 @@ use Rattle.cut_sets.specs.Painted.{painted}
 use Rattle.cut_sets.specs.Sets.{bands_of}
 use Rattle.painting.proofs.Rows.{written-pixel, written_row, written_all}
 use Rattle.painting.proofs.paint_rows.Goals as goal
-use Rattle.painting.proofs.paint_rows.Goals.{in-Some, in-default}
+use Rattle.painting.proofs.paint_rows.Goals.{in-Some, in_default}
 
 pub bounds-buffer-start : goal.bounds-buffer-start
 bounds-buffer-start g c =
@@ -21,7 +21,7 @@ loop-x-preserved g c =
       | in-Some w ↦ written-pixel f p (g.P.Picture.sound c.args.picture.now) c.columns-columns.result c.loop-x.x c.loop-y.y w.in-Some.level c.columns-columns.ensures w.in-Some.ensures
           c.new-palette.result.levels w.level_of.result c.new-palette.ensures w.level_of.ensures
           c.loop-y.buffer c.loop-x.buffer c.match-level.buffer (omega (arith, c.requires)) w.buffer-is c.loop-x.invariant
-      | in-default w ↦ absurd (never-none p c.loop-x.x c.loop-y.y (omega arith) (omega arith) w.in_default.ensures)
+      | in_default w ↦ absurd (never-none p c.loop-x.x c.loop-y.y (omega arith) (omega arith) w.in_default.ensures)
     ]
 
 pub loop-y-preserved : goal.loop-y-preserved
