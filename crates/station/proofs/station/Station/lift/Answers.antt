@@ -26,8 +26,8 @@ returns-in_err-remove g c =
       rule = refl;
     }
 
-pub returns : goal.returns
-returns g c =
+pub returns-in_ok-remove : goal.returns-in_ok-remove
+returns-in_ok-remove g c =
     let p = c.args.picture.now in
     record {
       outcome = lifted-done (account_of c.args.self.now) (g.P.Picture.shown p) (g.P.Picture.sound p) c.of_picture-less.result.counts c.of_picture-less.ensures (counts_of c.remove.new.self)
