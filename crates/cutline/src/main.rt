@@ -1,4 +1,6 @@
 // Prints the listing of the PGM file on standard input, or the line of the fault that stopped it.
+#![tactic(auto)]
+
 use listing::list::report;
 use std::io;
 use std::io::Read;

@@ -1,4 +1,6 @@
 // Dose pictures: float samples, their levels, and the first that is clipped.
+#![tactic(auto)]
+
 ghost use Rattle.std.specs.Prelude.{◌≡◌, map, length, slice_index_or};
 ghost use Rattle.std.specs.Float.{nan};
 ghost use Rattle.pictures.specs.Grids.{grid_of, grid_showing, grid_showing-sound, columns_in, rows_in};

@@ -1,5 +1,5 @@
 -- The laws of the one sum over levels: none, one more level, bands joined, pointwise order.
-use Rattle.std.proofs.Common.{◌≡◌, ℕ, zero, suc, ◌+◌, ◌-◌, ◌*◌, ◌<◌, ◌≤◌, max, ◌⊎◌, List, map, length, get_or, sum, sym, ap, ◌∙◌, subst, inl, inr, ⊎_elim, le_of_eq, add-zero, add-suc, mul_comm, add-mul, eq-zero-or-pos, mul-le-mul_left, mul-zero, zero-mul, mul-one, mul-add, add-one, arith}
+use Rattle.std.proofs.Common.{◌≡◌, ℕ, zero, suc, ◌+◌, ◌-◌, ◌*◌, ◌<◌, ◌≤◌, max, List, map, length, get_or, sum, sym, ap, ◌∙◌, subst, inl, inr, ⊎_elim, le_of_eq, add-zero, add-suc, mul_comm, add-mul, eq-zero-or-pos, mul-le-mul_left, mul-zero, zero-mul, mul-one, mul-add, add-one, arith}
 use Rattle.std.proofs.lemmas.List.{get_or_past}
 use Rattle.std.specs.List.{range_with_len}
 use Rattle.std.proofs.lemmas.List.FromFn.{sum_by-map-range_with_len_more}

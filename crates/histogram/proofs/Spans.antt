@@ -5,7 +5,7 @@ use Rattle.std.proofs.lemmas.List.{length_push, get_or_push, map-id}
 use Rattle.std.proofs.lemmas.List.FromFn.{filter_of_map_range_with_len_more}
 use Rattle.std.proofs.lemmas.Bool.{cases_eq, cases_lt, lt-ltb, le-ltb}
 use Rattle.histogram.specs.declared.histogram.Extent.{Extent}
-use Rattle.histogram.specs.Counts.{occupied, lowest, highest}
+use Rattle.histogram.specs.Counts.{occupied}
 use Rattle.histogram.specs.Extents.{extent_by}
 
 -- The occupied levels below i.

@@ -1,5 +1,5 @@
 -- The two bands of the Otsu cut are a cut set.
-use Rattle.std.proofs.Common.{◌≡◌, ℕ, zero, suc, ◌<◌, ◌≤◌, cond, ltb, List, length, set, replicate, Some, None, Option, sym, ap, ◌∙◌, subst, arith}
+use Rattle.std.proofs.Common.{◌≡◌, ℕ, zero, suc, ◌<◌, ◌≤◌, cond, ltb, List, length, set, replicate, Some, None, sym, ap, ◌∙◌, subst, arith}
 use Rattle.std.proofs.lemmas.Bool.{ltb-false}
 use Rattle.histogram.specs.Counts.{occupied, lowest, highest}
 use Rattle.histogram.specs.Totals.{count_of}
@@ -8,7 +8,7 @@ use Rattle.histogram.proofs.Means.{mean-within}
 use Rattle.histogram.proofs.Chosen.{some-unless}
 use Rattle.cut_sets.specs.declared.band.Band.{Band}
 use Rattle.cut_sets.specs.Bands.{no_band, mean_band_of, Inside, Rising, Cuts}
-use Rattle.otsu.specs.Otsu.{Otsu, otsu_level}
+use Rattle.otsu.specs.Otsu.{otsu_level}
 use Rattle.otsu.proofs.Classes.{range}
 use Rattle.otsu.proofs.Choice.{otsu-level}
 

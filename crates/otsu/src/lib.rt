@@ -1,4 +1,6 @@
 // Otsu's threshold, exactly.
+#![tactic(auto)]
+
 ghost use Rattle.std.specs.Prelude.{◌≡◌, ◌+◌, ◌*◌, ◌^◌, ◌<◌, ◌≤◌, ltb, length, IfSome, if◌then◌else◌, Some, None, nat_lt};
 ghost use Rattle.std.specs.Option.{option_map};
 ghost use Rattle.histogram.specs.Counts.{occupied, lowest, highest};

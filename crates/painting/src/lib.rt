@@ -1,4 +1,6 @@
 // Painting: a picture's pixels as the levels of their bands, into a buffer.
+#![tactic(auto)]
+
 ghost use Rattle.std.specs.Prelude.{◌≡◌, ℕ, ◌≤◌, true, length, take, is_ok, if◌then◌else◌};
 ghost use Rattle.pictures.specs.Raster.{size};
 ghost use Rattle.histogram.specs.Counts.{histogram_of};

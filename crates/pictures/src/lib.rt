@@ -1,4 +1,6 @@
 // Pictures: what every make of picture answers.
+#![tactic(auto)]
+
 ghost use Rattle.std.specs.Prelude.{◌≡◌};
 ghost use Rattle.pictures.specs.Raster.{Raster, Sound, level_at};
 

@@ -1,4 +1,6 @@
 // Follows a script of calls on piles of pictures, and prints what each answers. tools/piles.py has the lines of a script.
+#![tactic(auto)]
+
 mod bench;
 mod layers;
 mod pile;

@@ -1,4 +1,6 @@
 // Distance rules: how far a level is from another.
+#![tactic(auto)]
+
 ghost use Rattle.std.specs.Prelude.{◌≡◌, ℕ, ◌≤◌};
 ghost use Rattle.rules.specs.Distances.{gap, squares, absolute, tolerance};
 ghost use Rattle.std.proofs.lemmas.Nat.{mul-le};

@@ -1,4 +1,6 @@
 // A short text, put together without a heap.
+#![tactic(auto)]
+
 pub mod push;
 pub mod read;
 pub mod short;

@@ -41,7 +41,7 @@ mod tests {
         let mut text = Text::new();
         text.push_line(b"range", &[10, 60]);
         text.push_line(b"top", &[18446744073709551615]);
-        assert!(rt; text.as_bytes() == b"range 10 60\ntop 18446744073709551615\n");
+        assert!(rt; text.as_bytes() == b"range 10 60\ntop 18446744073709551615\n".as_slice());
         let mut out = [7; 38];
         assert!(rt; text.copy_to(&mut out[..36]) == Err(37));
         assert!(rt; text.copy_to(&mut out) == Ok(37));

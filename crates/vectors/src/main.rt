@@ -1,5 +1,7 @@
 // Lists every file of a table: a line with the case's number, and what is printed of the file.
 // In the table each file stands behind its length, in decimal digits, and LF.
+#![tactic(auto)]
+
 ghost use Rattle.std.specs.Prelude.{◌≤◌, length, IfSome, IfOk};
 
 use anyhow::anyhow;

@@ -1,4 +1,4 @@
-use Rattle.std.proofs.Common.{◌+◌, ◌≤◌, [], ◌∷◌, ◌++◌, length, codes, ap, ◌∙◌, arith}
+use Rattle.std.proofs.Common.{◌≤◌, [], ◌∷◌, ◌++◌, length, codes, ap, ◌∙◌, arith}
 use Rattle.text.specs.Texts.{text_of, line}
 use Rattle.text.proofs.Lines.{length-line, length-decimal-u64}
 use Rattle.histogram.specs.Counts.{lowest, highest}
