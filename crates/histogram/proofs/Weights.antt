@@ -1,6 +1,6 @@
 -- A total over pixels is a total over levels, each as often as it comes.
 use Rattle.std.proofs.Common.{◌≡◌, ℕ, suc, ◌+◌, ◌*◌, ◌<◌, ◌≤◌, cond, eqb, List, [], ◌∷◌, length, get_or, sum_by, sym, refl, ap, ◌∙◌, add-mul, one-mul, arith}
-use Rattle.std.specs.List.{AllByRecursion as All}
+use Rattle.std.specs.List.{AllByRecursion}
 use Rattle.std.proofs.lemmas.List.Sums.{sum_by-cons}
 use Rattle.std.proofs.ByRecursion.{All-from_get_or}
 use Rattle.std.proofs.lemmas.Bool.{eq-eqb, ne_eqb, cond-true, cond-false}
@@ -35,7 +35,7 @@ count_same x xs = sum_by-cons (λ v. cond (eqb v x) 1 0) x xs ∙ ap (λ n. n + 
 count-other : (x j : ℕ) (xs : List ℕ) → (j ≡ x → ⊥) → count (x ∷ xs) j ≡ count xs j
 count-other x j xs d = omega (arith, sum_by-cons (λ v. cond (eqb v j) 1 0) x xs, cond-false {A = ℕ} (eqb x j) 1 0 (ne_eqb x j (λ e. d (sym e))))
 
-pub weighed : (f : ℕ → ℕ) (xs : List ℕ) → All (λ v. v ≤ 255) xs → sum_of f (histogram_of xs) 0 256 ≡ sum_by f xs
+pub weighed : (f : ℕ → ℕ) (xs : List ℕ) → AllByRecursion (λ v. v ≤ 255) xs → sum_of f (histogram_of xs) 0 256 ≡ sum_by f xs
 weighed f [] a = sum-empty f (histogram_of []) 0 256 (λ j l m. each_at (λ i. count [] i) j m)
 weighed f (x ∷ xs) a =
     let at : (j : ℕ) → j < 256 → get_or (histogram_of xs) j 0 ≡ count xs j = λ j l. each_at (λ i. count xs i) j l in
@@ -50,7 +50,7 @@ ones : (xs : List ℕ) → sum_by one xs ≡ length xs
 ones [] = refl
 ones (x ∷ xs) = omega (arith, sum_by-cons one x xs, ones xs)
 
-pub all-low : (p : Raster) → Sound p → All (λ v. v ≤ 255) p.levels
+pub all-low : (p : Raster) → Sound p → AllByRecursion (λ v. v ≤ 255) p.levels
 all-low p s = All-from_get_or (λ v. v ≤ 255) p.levels 0 (λ i _. s.bytes i)
 
 pub pixels-of : (p : Raster) → Sound p → pixels (histogram_of p.levels) ≡ size p

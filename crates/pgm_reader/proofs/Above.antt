@@ -1,6 +1,6 @@
 -- The first byte above a limit.
 use Rattle.std.proofs.Common.{◌≡◌, ℕ, ◌+◌, ◌<◌, ◌≤◌, Bool, true, false, cond, ltb, leb, List, length, get_or, drop, Some, None, sym, refl, ap, ◌∙◌, subst, arith, ltb-false, le-ltb, lt-ltb, le-leb, leb-true}
-use Rattle.std.specs.List.{AllByRecursion as All}
+use Rattle.std.specs.List.{AllByRecursion}
 use Rattle.std.proofs.lemmas.List.{take_all}
 use Rattle.std.proofs.ByRecursion.{All-weaker}
 use Rattle.pgm_reader.specs.Format.{run, up_to, first_above_of}
@@ -33,18 +33,18 @@ pub passed-more : (top : ℕ) (xs : List ℕ) (i : ℕ) → i < length xs → ge
 passed-more top xs i h small p = passed top xs (i + 1) (run_more (λ b. leb b top) xs i h (le-leb (get_or xs i 0) top small) p.count)
 
 -- there is none exactly where all are up to it
-pub none_above : (top : ℕ) (xs : List ℕ) → first_above_of top xs ≡ None → All (λ b. b ≤ top) xs
+pub none_above : (top : ℕ) (xs : List ℕ) → first_above_of top xs ≡ None → AllByRecursion (λ b. b ≤ top) xs
 none_above top xs e =
     let t : ℕ → Bool = λ b. leb b top in
     let long : length xs ≤ up_to top xs = by (ltb (up_to top xs) (length xs)) refl e in
-    let all : All (λ b. t b ≡ true) xs = subst (All (λ b. t b ≡ true)) (take_all (run t xs) xs long) (all-run t xs) in
+    let all : AllByRecursion (λ b. t b ≡ true) xs = subst (AllByRecursion (λ b. t b ≡ true)) (take_all (run t xs) xs long) (all-run t xs) in
     All-weaker (λ b. t b ≡ true) (λ b. b ≤ top) (λ b f. leb-true b top f) xs all
   where
     by : (b : Bool) → ltb (up_to top xs) (length xs) ≡ b → cond b (Some (up_to top xs)) None ≡ None → length xs ≤ up_to top xs
     by true t e = let z : ◌≡◌ {A = ℕ} 0 1 = cc in absurd (omega arith)
     by false t e = ltb-false (up_to top xs) (length xs) t
 
-pub all_none : (top : ℕ) (xs : List ℕ) → All (λ b. b ≤ top) xs → first_above_of top xs ≡ None
+pub all_none : (top : ℕ) (xs : List ℕ) → AllByRecursion (λ b. b ≤ top) xs → first_above_of top xs ≡ None
 all_none top xs all =
     let t : ℕ → Bool = λ b. leb b top in
     above-none top xs (omega (arith, run-full t xs (All-weaker (λ b. b ≤ top) (λ b. t b ≡ true) (λ b f. le-leb b top f) xs all)))

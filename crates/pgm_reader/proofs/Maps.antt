@@ -1,6 +1,6 @@
 -- Reading accepts exactly the maps.
 use Rattle.std.proofs.Common.{◌≡◌, ℕ, ◌+◌, ◌*◌, ◌≤◌, Bool, true, false, cond, ◌&&◌, eqb, ltb, List, [], ◌∷◌, ◌++◌, length, take, drop, Some, None, Ok, Err, Option, Result, sym, refl, ap, ◌∙◌, subst, append_assoc, arith, ltb-false, le-ltb}
-use Rattle.std.specs.List.{AllByRecursion as All}
+use Rattle.std.specs.List.{AllByRecursion}
 use Rattle.std.proofs.lemmas.List.{length-append}
 use Rattle.std.proofs.lemmas.List.Prefix.{end_rest}
 use Rattle.faults.specs.Faults.{fault, told, and_then}
@@ -39,12 +39,12 @@ samples-cut bs rest s d = ap (λ k. take k (drop s.first bs)) (omega arith) ∙ 
 
 -- the samples of an accepted file
 accepted-samples : (bs rest : List ℕ) (s : Shape) (h : Header) → drop s.first bs ≡ rest → with_samples bs s ≡ Ok h
-    → (s.first + s.columns * s.rows ≤ length bs) × (h ≡ header s) × All (λ b. b ≤ s.maxval) (take (s.columns * s.rows) rest)
+    → (s.first + s.columns * s.rows ≤ length bs) × (h ≡ header s) × AllByRecursion (λ b. b ≤ s.maxval) (take (s.columns * s.rows) rest)
 accepted-samples bs rest s h d e =
     let n = s.columns * s.rows in
     let a = cond_no (ltb (length bs) (s.first + n)) _ _ h e in
     let u = unless-ok (first_above_of s.maxval (samples bs (header s))) (header s) h a.1 in
-    (ltb-false (length bs) (s.first + n) a.0, u.1, subst (All (λ b. b ≤ s.maxval)) (samples-cut bs rest s d) (none_above s.maxval (samples bs (header s)) u.0))
+    (ltb-false (length bs) (s.first + n) a.0, u.1, subst (AllByRecursion (λ b. b ≤ s.maxval)) (samples-cut bs rest s d) (none_above s.maxval (samples bs (header s)) u.0))
 
 sound-at : (bs : List ℕ) (h : Header) (s : Shape) → shape_of bs ≡ Ok s → with_samples (80 ∷ 53 ∷ bs) s ≡ Ok h → GreyMap (80 ∷ 53 ∷ bs) h
 sound-at bs h s e f =
@@ -84,7 +84,7 @@ sound-at bs h s e f =
       first = omega (arith, hf, long);
       end = ap (λ x. x.end) q.1 ∙ sym (ap (λ k. k + h.columns * h.rows) hf ∙ ap (λ k. s.first + k) hn);
       enough = omega (arith, hn, q.0, long);
-      none_above_maxval = subst (λ k. All (λ b. b ≤ h.maxval) (take k w.1)) (sym hn) (subst (λ v. All (λ b. b ≤ v) (take (s.columns * s.rows) w.1)) (sym (ap (λ x. x.maxval) q.1)) q.2);
+      none_above_maxval = subst (λ k. AllByRecursion (λ b. b ≤ h.maxval) (take k w.1)) (sym hn) (subst (λ v. AllByRecursion (λ b. b ≤ v) (take (s.columns * s.rows) w.1)) (sym (ap (λ x. x.maxval) q.1)) q.2);
     }
 
 pub sound : (bs : List ℕ) (h : Header) → image_of bs ≡ Ok h → GreyMap bs h
@@ -105,10 +105,10 @@ sound (a ∷ b ∷ bs) h e =
     is-5 e = grind arith
 
 -- the samples of a map
-samples-are : (file rest : List ℕ) (s : Shape) → drop s.first file ≡ rest → s.first + length rest ≡ length file → s.columns * s.rows ≤ length rest → All (λ b. b ≤ s.maxval) (take (s.columns * s.rows) rest) → with_samples file s ≡ Ok (header s)
+samples-are : (file rest : List ℕ) (s : Shape) → drop s.first file ≡ rest → s.first + length rest ≡ length file → s.columns * s.rows ≤ length rest → AllByRecursion (λ b. b ≤ s.maxval) (take (s.columns * s.rows) rest) → with_samples file s ≡ Ok (header s)
 samples-are file rest s d l enough small =
     let xs = samples file (header s) in
-    let none = all_none s.maxval xs (subst (All (λ b. b ≤ s.maxval)) (sym (samples-cut file rest s d)) small) in
+    let none = all_none s.maxval xs (subst (AllByRecursion (λ b. b ≤ s.maxval)) (sym (samples-cut file rest s d)) small) in
     ap (λ b. cond b (Err (fault 1 14 (length file))) (unless_above (header s) (first_above_of s.maxval xs))) (le-ltb (length file) (s.first + s.columns * s.rows) (omega (arith, l, enough)))
     ∙ ap (unless_above (header s)) none
 

@@ -1,6 +1,6 @@
 -- A number that was found divides the file, and a divided file has its number found.
 use Rattle.std.proofs.Common.{◌≡◌, ℕ, ◌+◌, ◌<◌, ◌≤◌, Bool, true, false, cond, ◌&&◌, leb, List, [], ◌∷◌, ◌++◌, length, take, drop, Ok, Err, Result, sym, refl, ap, ◌∙◌, arith, take-append-drop}
-use Rattle.std.specs.List.{AllByRecursion as All}
+use Rattle.std.specs.List.{AllByRecursion}
 use Rattle.std.proofs.lemmas.List.{take_at, drop_at, length-take-le, length-append}
 use Rattle.faults.specs.Faults.{fault}
 use Rattle.faults.specs.declared.Fault.{Fault}
@@ -28,10 +28,10 @@ gap-cut bs = run-full white (take (gap bs) bs) (all-run white bs)
 gap-some : (bs : List ℕ) → starts white bs ≡ true → starts white (take (gap bs) bs) ≡ true
 gap-some bs h = starts-take white bs (gap bs) (run-some white bs h) h
 
-gap-front : (ws ds rest : List ℕ) → gap ws ≡ length ws → All (λ b. digit b ≡ true) ds → 0 < length ds → gap (ws ++ (ds ++ rest)) ≡ length ws
+gap-front : (ws ds rest : List ℕ) → gap ws ≡ length ws → AllByRecursion (λ b. digit b ≡ true) ds → 0 < length ds → gap (ws ++ (ds ++ rest)) ≡ length ws
 gap-front ws ds rest g a some = run-front white ws (ds ++ rest) (full-run white ws g) (stops ds a some)
   where
-    stops : (ds : List ℕ) → All (λ b. digit b ≡ true) ds → 0 < length ds → starts white (ds ++ rest) ≡ false
+    stops : (ds : List ℕ) → AllByRecursion (λ b. digit b ≡ true) ds → 0 < length ds → starts white (ds ++ rest) ≡ false
     stops [] a h = absurd (omega arith)
     stops (d ∷ ds) a h = digit-no-white d a.0
 
@@ -104,7 +104,7 @@ closed_is rule v d q rs low high h =
     in-range : (l u : ℕ) → l ≤ v → v ≤ u → (leb l v && leb v u) ≡ true
     in-range l u low high = grind arith
 
-digits_are : (rule : NumberRule) (d v : ℕ) (ds rest : List ℕ) → All (λ b. digit b ≡ true) ds → 0 < length ds → value_from 0 ds ≡ v → rule.low ≤ v → v ≤ rule.high → closes rule rest ≡ true
+digits_are : (rule : NumberRule) (d v : ℕ) (ds rest : List ℕ) → AllByRecursion (λ b. digit b ≡ true) ds → 0 < length ds → value_from 0 ds ≡ v → rule.low ≤ v → v ≤ rule.high → closes rule rest ≡ true
     → digits_at rule d (ds ++ rest) ≡ Ok (found v (d + length ds) rest)
 digits_are rule d v ds rest a some value low high h =
     let xs = ds ++ rest in

@@ -1,6 +1,6 @@
 -- How many bytes at the front pass a test.
 use Rattle.std.proofs.Common.{◌≡◌, ℕ, zero, suc, ◌+◌, ◌<◌, ◌≤◌, Bool, true, false, cond, List, [], ◌∷◌, ◌++◌, length, get_or, take, drop, sym, refl, ap, ◌∙◌, subst, arith}
-use Rattle.std.specs.List.{AllByRecursion as All}
+use Rattle.std.specs.List.{AllByRecursion}
 use Rattle.std.proofs.lemmas.List.{at_drop_more, at_drop_all}
 use Rattle.pgm_reader.specs.Format.{run, starts}
 
@@ -28,11 +28,11 @@ run-le t (b ∷ bs) = by (t b) (run-le t bs)
     by true h = omega arith
     by false h = omega arith
 
-pub all-run : (t : ℕ → Bool) (bs : List ℕ) → All (λ b. t b ≡ true) (take (run t bs) bs)
+pub all-run : (t : ℕ → Bool) (bs : List ℕ) → AllByRecursion (λ b. t b ≡ true) (take (run t bs) bs)
 all-run t [] = tt
 all-run t (b ∷ bs) = by (t b) refl (all-run t bs)
   where
-    by : (v : Bool) → t b ≡ v → All (λ b. t b ≡ true) (take (run t bs) bs) → All (λ b. t b ≡ true) (take (cond v (suc (run t bs)) 0) (b ∷ bs))
+    by : (v : Bool) → t b ≡ v → AllByRecursion (λ b. t b ≡ true) (take (run t bs) bs) → AllByRecursion (λ b. t b ≡ true) (take (cond v (suc (run t bs)) 0) (b ∷ bs))
     by true e h = (e, h)
     by false e h = tt
 
@@ -40,21 +40,21 @@ pub run-some : (t : ℕ → Bool) (bs : List ℕ) → starts t bs ≡ true → 0
 run-some t [] h = let z : ◌≡◌ {A = ℕ} 0 1 = cc in absurd (omega arith)
 run-some t (b ∷ bs) h = subst (λ v. 0 < cond v (suc (run t bs)) 0) (sym h) (omega arith)
 
-pub run-front : (t : ℕ → Bool) (ws rest : List ℕ) → All (λ b. t b ≡ true) ws → starts t rest ≡ false → run t (ws ++ rest) ≡ length ws
+pub run-front : (t : ℕ → Bool) (ws rest : List ℕ) → AllByRecursion (λ b. t b ≡ true) ws → starts t rest ≡ false → run t (ws ++ rest) ≡ length ws
 run-front t [] [] a h = refl
 run-front t [] (b ∷ bs) a h = ap (λ v. cond v (suc (run t bs)) 0) h
 run-front t (w ∷ ws) rest a h = ap (λ v. cond v (suc (run t (ws ++ rest))) 0) a.0 ∙ ap suc (run-front t ws rest a.1 h)
 
 -- a list that is one run
-pub run-full : (t : ℕ → Bool) (ws : List ℕ) → All (λ b. t b ≡ true) ws → run t ws ≡ length ws
+pub run-full : (t : ℕ → Bool) (ws : List ℕ) → AllByRecursion (λ b. t b ≡ true) ws → run t ws ≡ length ws
 run-full t [] a = refl
 run-full t (w ∷ ws) a = ap (λ v. cond v (suc (run t ws)) 0) a.0 ∙ ap suc (run-full t ws a.1)
 
-pub full-run : (t : ℕ → Bool) (ws : List ℕ) → run t ws ≡ length ws → All (λ b. t b ≡ true) ws
+pub full-run : (t : ℕ → Bool) (ws : List ℕ) → run t ws ≡ length ws → AllByRecursion (λ b. t b ≡ true) ws
 full-run t [] e = tt
 full-run t (w ∷ ws) e = by (t w) refl e (full-run t ws)
   where
-    by : (v : Bool) → t w ≡ v → cond v (suc (run t ws)) 0 ≡ suc (length ws) → (run t ws ≡ length ws → All (λ b. t b ≡ true) ws) → All (λ b. t b ≡ true) (w ∷ ws)
+    by : (v : Bool) → t w ≡ v → cond v (suc (run t ws)) 0 ≡ suc (length ws) → (run t ws ≡ length ws → AllByRecursion (λ b. t b ≡ true) ws) → AllByRecursion (λ b. t b ≡ true) (w ∷ ws)
     by true f e go = (f, go (omega arith))
     by false f e go = absurd (omega arith)
 
@@ -62,7 +62,7 @@ pub starts-front : (t : ℕ → Bool) (ws rest : List ℕ) → starts t ws ≡ t
 starts-front t [] rest h = let z : ◌≡◌ {A = ℕ} 0 1 = cc in absurd (omega arith)
 starts-front t (w ∷ ws) rest h = h
 
-pub starts-all : (t : ℕ → Bool) (ws : List ℕ) → All (λ b. t b ≡ true) ws → 0 < length ws → starts t ws ≡ true
+pub starts-all : (t : ℕ → Bool) (ws : List ℕ) → AllByRecursion (λ b. t b ≡ true) ws → 0 < length ws → starts t ws ≡ true
 starts-all t [] a h = absurd (omega arith)
 starts-all t (w ∷ ws) a h = a.0
 

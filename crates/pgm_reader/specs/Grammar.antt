@@ -1,6 +1,6 @@
 -- What a binary grey map is, as a division of the file into parts.
 use Rattle.std.specs.Prelude.{◌≡◌, ℕ, ◌+◌, ◌*◌, ◌<◌, ◌≤◌, true, List, ◌∷◌, ◌++◌, length, take, Ok, Err, Result}
-use Rattle.std.specs.List.{AllByRecursion as All}
+use Rattle.std.specs.List.{AllByRecursion}
 use Rattle.pgm_reader.specs.declared.fault.ReadFault.{ReadFault}
 use Rattle.pgm_reader.specs.declared.read.Header.{Header}
 use Rattle.pgm_reader.specs.Format.{white, digit, starts, gap, value_from, NumberRule, header_rule}
@@ -9,7 +9,7 @@ use Rattle.pgm_reader.specs.Format.{white, digit, starts, gap, value_from, Numbe
 pub record Number (rule : NumberRule) (v : ℕ) (ws ds : List ℕ) : Type 0 where
   pub apart : starts white ws ≡ true
   pub blank : gap ws ≡ length ws
-  pub digits : All (λ b. digit b ≡ true) ds
+  pub digits : AllByRecursion (λ b. digit b ≡ true) ds
   pub some : 0 < length ds
   pub value : value_from 0 ds ≡ v
   pub low : rule.low ≤ v
@@ -33,7 +33,7 @@ pub record GreyMap (bs : List ℕ) (h : Header) : Type 0 where
   pub first : h.first + length rest ≡ length bs
   pub end : h.end ≡ h.first + h.columns * h.rows
   pub enough : h.columns * h.rows ≤ length rest
-  pub none_above_maxval : All (λ b. b ≤ h.maxval) (take (h.columns * h.rows) rest)
+  pub none_above_maxval : AllByRecursion (λ b. b ≤ h.maxval) (take (h.columns * h.rows) rest)
 
 -- What an answer says of the file: reading accepts exactly the maps, with their headers.
 abbrev pub Maps : List ℕ → Result Header ReadFault → Type 0
