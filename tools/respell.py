@@ -1,12 +1,12 @@
 #!/usr/bin/env python3
 """Respells this repository's own definitions, constructors and fields from camel case to snake case, in sources, definitions, proofs
-and must-fail edits. Run once, at the top of the repository, after the toolchain's port.py. A name that would fall together with a free
-function of its crate gets `_of` behind it. Names in src/ that are Rust's own, strings, inputs and outputs stay."""
+and must-fail edits. Run once, at the top of the repository, after the toolchain's port.py. The names in TAKEN get another spelling than
+the plain one, mostly since that would fall together with a function's. Names of functions, strings, inputs and outputs stay."""
 
 import pathlib
 import re
 
-# Where the plain spelling is taken.
+# Another spelling than the plain one.
 TAKEN = {
     "bandSum": "band_sum_of",
     "doseLevel": "dose_level_of",

@@ -1,5 +1,5 @@
 // The table that a cut set keeps its bands in.
-ghost use Rattle.std.specs.Prelude.{◌≡◌, length, set, replicate, slice_set};
+ghost use Rattle.std.specs.Prelude.{◌≡◌, length, replicate, slice_set};
 ghost use Rattle.cut_sets.specs.Bands.{no_band};
 
 use crate::band::Band;

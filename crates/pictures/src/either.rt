@@ -1,5 +1,4 @@
 // One of two kinds of picture.
-ghost use Rattle.std.specs.Prelude.{◌≡◌};
 ghost use Rattle.pictures.specs.Either.{either, either-sound};
 
 use crate::Picture;

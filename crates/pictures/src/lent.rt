@@ -1,5 +1,4 @@
 // A reference to a picture is a picture.
-ghost use Rattle.std.specs.Prelude.{◌≡◌};
 
 use crate::Picture;
 

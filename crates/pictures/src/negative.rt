@@ -1,5 +1,4 @@
 // The negative of a picture.
-ghost use Rattle.std.specs.Prelude.{◌≡◌};
 ghost use Rattle.pictures.specs.Layers.{negated, negated-sound};
 
 use crate::Picture;

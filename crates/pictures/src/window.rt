@@ -1,5 +1,4 @@
 // A window on a picture.
-ghost use Rattle.std.specs.Prelude.{◌≡◌};
 ghost use Rattle.pictures.specs.Layers.{windowed, windowed-sound};
 
 use crate::Picture;

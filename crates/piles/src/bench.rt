@@ -1,5 +1,4 @@
 // Three stations, one for each rule, that get the same calls.
-ghost use Rattle.std.specs.Prelude.{◌≡◌};
 
 use crate::script::{Line, number};
 use anyhow::anyhow;
