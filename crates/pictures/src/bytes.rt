@@ -5,7 +5,7 @@ ghost use Rattle.pictures.specs.Bytes.{byte_raster, showing, showing-sound};
 use crate::Picture;
 
 // The most columns, and the most rows.
-const MOST: usize = 4096;
+pub(crate) const MOST: usize = 4096;
 
 // Bytes in the caller's memory, as whole rows.
 #[derive(Clone, Copy)]

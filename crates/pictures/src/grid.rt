@@ -2,8 +2,7 @@
 ghost use Rattle.std.specs.Prelude.{◌≡◌};
 ghost use Rattle.pictures.specs.Grids.{grid_of, columns_in, rows_in, index_in};
 
-// The most columns, and the most rows.
-const MOST: usize = 4096;
+use crate::bytes::MOST;
 
 // How many columns and rows some samples make.
 #[derive(Clone, Copy)]

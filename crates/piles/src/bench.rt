@@ -1,4 +1,7 @@
 // Three stations, one for each rule, that get the same calls.
+ghost use Rattle.std.specs.Prelude.{◌≡◌, MatchResult};
+ghost use Rattle.station.specs.Account.{start};
+ghost use Rattle.station.specs.States.{account_of};
 
 use crate::script::{Line, number};
 use anyhow::anyhow;
@@ -28,8 +31,10 @@ fn print_done(rt: &HostRuntime, answer: Result<(), StationFault>) -> anyhow::Res
     Ok(())
 }
 
-// The sum of a cut that another station accepted too.
-fn sum_of(answer: Result<CutAnswer, StationFault>) -> u64 {
+// The sum of a cut that another station accepted too; 0 where it was refused.
+fn sum_of(answer: Result<CutAnswer, StationFault>) -> u64
+    ensures { MatchResult answer (λ cut. result ≡ cut.sum) (λ _. result ≡ 0) }
+{
     match answer {
         Ok(cut) => cut.sum,
         Err(_) => 0,
@@ -62,7 +67,12 @@ fn at<P: Picture>(rt: &HostRuntime, picture: &P, given: &[usize]) -> anyhow::Res
 }
 
 impl Bench {
-    pub(crate) fn new() -> Bench {
+    // Nothing in hand, and no cut set.
+    pub(crate) fn new() -> Bench
+        ensures squares { account_of result.squares ≡ start }
+        ensures absolute { account_of result.absolute ≡ start }
+        ensures tolerance { account_of result.tolerance ≡ start }
+    {
         Bench {
             squares: Station::new(Squares),
             absolute: Station::new(Absolute),

@@ -6,6 +6,9 @@ mod layers;
 mod pile;
 mod script;
 
+ghost use Rattle.std.specs.Prelude.{◌≡◌, slice_index, IfOk};
+ghost use Rattle.piles.specs.declared.layers.Layer.TheVariants.{Window};
+
 use bench::Bench;
 use layers::Layer;
 use pile::Pile;
@@ -13,7 +16,9 @@ use script::{Line, number, numbers};
 use std::io::Read;
 
 // The window of a line.
-fn window(given: &[usize]) -> anyhow::Result<Layer> {
+fn window(given: &[usize]) -> anyhow::Result<Layer>
+    ensures { IfOk result (λ l. l ≡ Window (slice_index given.now 0) (slice_index given.now 1) (slice_index given.now 2) (slice_index given.now 3)) }
+{
     Ok(Layer::Window {
         left: number(given, 0)?,
         top: number(given, 1)?,

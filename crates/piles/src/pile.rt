@@ -1,5 +1,5 @@
 // A picture and up to three layers on it.
-ghost use Rattle.std.specs.Prelude.{◌≡◌, [], replicate};
+ghost use Rattle.std.specs.Prelude.{◌≡◌, ◌+◌, [], replicate, is_ok, if◌then◌else◌, nat_lt, slice_set};
 ghost use Rattle.piles.specs.declared.layers.Layer.TheVariants.{Clear};
 
 use crate::bench::{Bench, answer};
@@ -23,7 +23,13 @@ pub(crate) struct Pile {
 }
 
 impl Pile {
-    pub(crate) fn new(heap: Global) -> Pile {
+    // No sample and no layer.
+    pub(crate) fn new(heap: Global) -> Pile
+        ensures columns { result.columns ≡ 0 }
+        ensures bytes { result.bytes.items ≡ [] }
+        ensures samples { result.samples.items ≡ [] }
+        ensures height { result.height ≡ 0 }
+    {
         Pile {
             columns: 0,
             dose: false,
@@ -83,8 +89,15 @@ impl Pile {
         Ok(())
     }
 
-    // One layer more.
-    pub(crate) fn put(&mut self, layer: Layer) -> anyhow::Result<()> {
+    // One layer more; refused, and nothing changed, where there are three.
+    pub(crate) fn put(&mut self, layer: Layer) -> anyhow::Result<()>
+        ensures answer { is_ok result ≡ nat_lt self.old.height 3 }
+        ensures layers { self.new.layers ≡ (if is_ok result then slice_set self.old.layers self.old.height layer else self.old.layers) }
+        ensures height { self.new.height ≡ (if is_ok result then self.old.height + 1 else self.old.height) }
+        ensures columns { self.new.columns ≡ self.old.columns }
+        ensures bytes { self.new.bytes.items ≡ self.old.bytes.items }
+        ensures samples { self.new.samples.items ≡ self.old.samples.items }
+    {
         if self.height >= 3 {
             return Err(anyhow!("a fourth layer"));
         }

@@ -14,6 +14,7 @@ pub trait DistanceRule {
     fn distance(&self, a: u8, b: u8) -> u32
         ensures { result ≡ table self.now a b };
 
+    // The two laws; above the method a ghost member would be data.
     ghost bounded: { (r : Self) (a b : ℕ) → a ≤ 255 → b ≤ 255 → table r a b ≤ 65025 };
 
     // A wider gap is no shorter distance.
