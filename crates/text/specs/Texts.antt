@@ -1,10 +1,6 @@
 -- Texts and lines as lists of bytes.
 use Rattle.std.specs.Prelude.{ℕ, cond, List, [], ◌∷◌, ◌++◌, length, take, drop, Ok, Err, decimal, Result, nat_lt}
-use Rattle.text.specs.declared.short.Text.{Text}
-
--- The bytes of a text.
-abbrev pub text_of : Text → List ℕ
-text_of t = take t.used t.bytes
+use Rattle.faults.specs.declared.ShortBuffer.{ShortBuffer}
 
 -- A text holds 256 bytes; what comes behind them is left out.
 abbrev pub clipped : List ℕ → List ℕ
@@ -23,9 +19,9 @@ line name numbers = name ++ (fields numbers ++ (10 ∷ []))
 abbrev pub placed : List ℕ → List ℕ → List ℕ
 placed buffer text = text ++ drop (length text) buffer
 
--- What a copy into a buffer answers, which is the text's length, as an error where it has no room.
-abbrev pub copy_answer : List ℕ → List ℕ → Result ℕ ℕ
-copy_answer buffer text = cond (nat_lt (length buffer) (length text)) (Err (length text)) (Ok (length text))
+-- What a copy into a buffer answers: the text's length, or that as the bytes needed where it has no room.
+abbrev pub copy_answer : List ℕ → List ℕ → Result ℕ ShortBuffer
+copy_answer buffer text = cond (nat_lt (length buffer) (length text)) (Err (record { needed = length text })) (Ok (length text))
 
 -- The buffer afterwards: as it was where it has no room.
 abbrev pub copy_buffer : List ℕ → List ℕ → List ℕ
