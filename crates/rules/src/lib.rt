@@ -21,12 +21,6 @@ pub trait DistanceRule {
     ghost widens: { (r : Self) (a b e f : ℕ) → a ≤ 255 → b ≤ 255 → e ≤ 255 → f ≤ 255 → gap a b ≤ gap e f → table r a b ≤ table r e f };
 }
 
-fn gap_of(a: u8, b: u8) -> u8
-    ensures { result ≡ gap a b }
-{
-    if a < b { b - a } else { a - b }
-}
-
 // The gap times itself.
 #[derive(Clone, Copy)]
 pub struct Squares;
@@ -39,7 +33,7 @@ impl DistanceRule for Squares {
     ghost widens = { λ r a b e f _ _ _ _ h. mul-le (gap a b) (gap a b) (gap e f) (gap e f) h h };
 
     fn distance(&self, a: u8, b: u8) -> u32 {
-        let gap = gap_of(a, b) as u32;
+        let gap = u32::from(a.abs_diff(b));
         gap * gap
     }
 }
@@ -56,7 +50,7 @@ impl DistanceRule for Absolute {
     ghost widens = { Prim.search rules };
 
     fn distance(&self, a: u8, b: u8) -> u32 {
-        gap_of(a, b) as u32
+        u32::from(a.abs_diff(b))
     }
 }
 
@@ -74,7 +68,7 @@ impl DistanceRule for Tolerance {
     ghost widens = { Prim.search rules };
 
     fn distance(&self, a: u8, b: u8) -> u32 {
-        if gap_of(a, b) <= self.within { 0 } else { 1 }
+        u32::from(a.abs_diff(b) > self.within)
     }
 }
 
