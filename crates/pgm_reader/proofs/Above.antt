@@ -1,36 +1,21 @@
 -- The first byte above a limit.
-use Rattle.std.proofs.Common.{◌≡◌, ℕ, ◌+◌, ◌<◌, ◌≤◌, Bool, true, false, cond, ltb, leb, List, length, get_or, drop, Some, None, sym, refl, ap, ◌∙◌, subst, arith, ltb-false, le-ltb, lt-ltb, le-leb, leb-true}
-use Rattle.std.specs.List.{AllByRecursion}
+use Rattle.std.proofs.Common.{◌≡◌, ℕ, ◌+◌, ◌≤◌, Bool, true, false, cond, ltb, leb, List, ◌∷◌, length, Some, None, sym, refl, ap, subst, arith, ltb-false, le-ltb, le-leb, leb-true}
+use Rattle.std.specs.List.{AllByRecursion, position}
+use Rattle.std.proofs.lemmas.List.Recursion.{is_position_or_len}
 use Rattle.std.proofs.lemmas.List.{take_all}
 use Rattle.std.proofs.ByRecursion.{All-weaker}
 use Rattle.pgm_reader.specs.Format.{run, up_to, first_above_of}
-use Rattle.pgm_reader.proofs.Runs.{run_more, run-stop, run-all, all-run, run-full}
+use Rattle.pgm_reader.proofs.Runs.{all-run, run-full}
 
 above-none : (top : ℕ) (xs : List ℕ) → length xs ≤ up_to top xs → first_above_of top xs ≡ None
 above-none top xs h = ap (λ b. cond b (Some (up_to top xs)) None) (le-ltb (up_to top xs) (length xs) h)
 
--- a loop that has passed i bytes: what is found if it stops here, or at the end
-pub record Passed (top : ℕ) (xs : List ℕ) (i : ℕ) : Type 0 where
-  pub count : up_to top xs ≡ i + up_to top (drop i xs)
-  pub here : i < length xs → top < get_or xs i 0 → Some i ≡ first_above_of top xs
-  pub none : length xs ≤ i → None ≡ first_above_of top xs
-
-passed : (top : ℕ) (xs : List ℕ) (i : ℕ) → up_to top xs ≡ i + up_to top (drop i xs) → Passed top xs i
-passed top xs i e =
-    record {
-      count = e;
-      here = λ h above. let n = run-stop (λ b. leb b top) xs i h (lt-leb top (get_or xs i 0) above) e in sym (ap (λ b. cond b (Some (up_to top xs)) None) (lt-ltb (up_to top xs) (length xs) (omega (arith, n))) ∙ ap Some n);
-      none = λ h. sym (above-none top xs (omega (arith, run-all (λ b. leb b top) xs i h e)));
-    }
+-- the first byte above top, in std's words
+pub position_above : (top : ℕ) (xs : List ℕ) → position (λ b. ltb top b) xs ≡ first_above_of top xs
+position_above top xs = ap (λ n. cond (ltb n (length xs)) (Some n) None) (sym (is_position_or_len (up_to top) (λ b. ltb top b) refl step xs))
   where
-    lt-leb : (a b : ℕ) → a < b → leb b a ≡ false
-    lt-leb a b h = grind arith
-
-pub passed_none : (top : ℕ) (xs : List ℕ) → Passed top xs 0
-passed_none top xs = passed top xs 0 (omega arith)
-
-pub passed-more : (top : ℕ) (xs : List ℕ) (i : ℕ) → i < length xs → get_or xs i 0 ≤ top → Passed top xs i → Passed top xs (i + 1)
-passed-more top xs i h small p = passed top xs (i + 1) (run_more (λ b. leb b top) xs i h (le-leb (get_or xs i 0) top small) p.count)
+    step : (x : ℕ) (xs : List ℕ) → up_to top (x ∷ xs) ≡ cond (ltb top x) 0 (1 + up_to top xs)
+    step x xs = grind arith
 
 -- there is none exactly where all are up to it
 pub none_above : (top : ℕ) (xs : List ℕ) → first_above_of top xs ≡ None → AllByRecursion (λ b. b ≤ top) xs

@@ -14,11 +14,11 @@ pub enum ReadFault {
     AboveMaxval(usize),
 }
 
-impl ReadFault {
-    pub fn fault(self) -> Fault
-        ensures { result ≡ read_fault self }
-    {
-        let (number, detail) = match self {
+impl From<ReadFault> for Fault {
+    ghost from_gives = { λ fault result. result ≡ read_fault fault };
+
+    fn from(fault: ReadFault) -> Fault {
+        let (number, detail) = match fault {
             ReadFault::NotP5 => (11, 0),
             ReadFault::Misplaced(place) => (12, place),
             ReadFault::OutOfRange(place) => (13, place),

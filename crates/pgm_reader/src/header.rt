@@ -1,10 +1,9 @@
 // The header of a binary grey map, read one byte at a time.
-ghost use Rattle.std.specs.Prelude.{◌≡◌, ℕ, List, ◌≢◌};
+ghost use Rattle.std.specs.Prelude.{◌≡◌, ◌+◌, ◌<◌, ◌^◌, ℕ, List};
 ghost use Rattle.faults.specs.Faults.{told};
 ghost use Rattle.pgm_reader.specs.Faults.{read_fault};
 ghost use Rattle.pgm_reader.specs.Format.{shape_of};
 ghost use Rattle.pgm_reader.specs.Machine.{kind_of, largest_of, left, Steps, Closes};
-ghost use Rattle.pgm_reader.specs.declared.header.Stage.TheVariants.{Opened, Done};
 
 use crate::fault::ReadFault;
 
@@ -15,21 +14,21 @@ pub(crate) enum Kind {
     Other,
 }
 
-// The number that is read next, or now.
+// The number that is read next, or now, with those that are read already.
 #[derive(Clone, Copy)]
 pub(crate) enum Field {
     Columns,
-    Rows,
-    Maxval,
+    Rows { columns: usize },
+    Maxval { columns: usize, rows: usize },
 }
 
-// Opened: only `P5` is read. Gap: between numbers. Digits: in a number.
+// Opened: only `P5` is read. Gap: between numbers. Digits: in a number, whose first digit has the place `start`,
+// and whose digits make `value` so far.
 #[derive(Clone, Copy)]
 pub(crate) enum Stage {
     Opened,
     Gap,
-    Digits,
-    Done,
+    Digits { start: usize, value: usize },
 }
 
 // The three numbers of a header, and the place of the first sample.
@@ -41,16 +40,11 @@ pub(crate) struct Shape {
     pub(crate) first: usize,
 }
 
-// How far a header has been read. In a number, `value` is what its digits make so far, and `start` the place of the first.
+// How far a header has been read.
 #[derive(Clone, Copy)]
 pub(crate) struct HeaderMachine {
     stage: Stage,
     field: Field,
-    value: usize,
-    start: usize,
-    columns: usize,
-    rows: usize,
-    maxval: u8,
 }
 
 fn kind_of(byte: u8) -> Kind
@@ -68,81 +62,70 @@ impl Field {
         ensures { result ≡ largest_of self }
     {
         match self {
-            Field::Columns => 4096,
-            Field::Rows => 4096,
-            Field::Maxval => 255,
+            Field::Columns | Field::Rows { .. } => 4096,
+            Field::Maxval { .. } => 255,
         }
     }
 }
 
 impl HeaderMachine {
     fn new() -> Self
-        ensures whole { (bs : List ℕ) → left result 2 bs ≡ shape_of bs }
-        ensures opened { result.stage ≡ Opened }
+        ensures { (bs : List ℕ) → left result 2 bs ≡ shape_of bs }
     {
         HeaderMachine {
             stage: Stage::Opened,
             field: Field::Columns,
-            value: 0,
-            start: 0,
-            columns: 0,
-            rows: 0,
-            maxval: 0,
         }
     }
 
-    // The white byte behind a number: keeps the number, or refuses it.
-    fn close(&mut self) -> Result<(), ReadFault>
-        ensures { Closes self.old self.new result }
+    // The white byte at `at`, behind a number: keeps the number, or refuses it. Behind the maxval the header is whole.
+    fn close(&mut self, at: usize, start: usize, value: usize) -> Result<Option<Shape>, ReadFault>
+        requires { at + 1 < 2 ^ 64 }
+        ensures { Closes self.old self.new at start value result }
     {
-        let value = self.value;
         if value < 1 || value > self.field.largest() {
-            return Err(ReadFault::OutOfRange(self.start));
+            return Err(ReadFault::OutOfRange(start));
         }
-        match self.field {
-            Field::Columns => {
-                self.columns = value;
-                self.field = Field::Rows;
-                self.stage = Stage::Gap;
+        self.stage = Stage::Gap;
+        self.field = match self.field {
+            Field::Columns => Field::Rows { columns: value },
+            Field::Rows { columns } => Field::Maxval {
+                columns,
+                rows: value,
+            },
+            Field::Maxval { columns, rows } => {
+                return Ok(Some(Shape {
+                    columns,
+                    rows,
+                    maxval: value as u8,
+                    first: at + 1,
+                }));
             }
-            Field::Rows => {
-                self.rows = value;
-                self.field = Field::Maxval;
-                self.stage = Stage::Gap;
-            }
-            Field::Maxval => {
-                self.maxval = value as u8;
-                self.stage = Stage::Done;
-            }
-        }
-        Ok(())
+        };
+        Ok(None)
     }
 
-    // The next byte of the header, at its place in the file.
-    fn step(&mut self, at: usize, byte: u8) -> Result<(), ReadFault>
-        requires { self.old.stage ≢ Done }
+    // The next byte of the header, at its place in the file; the header, if it ends there.
+    fn step(&mut self, at: usize, byte: u8) -> Result<Option<Shape>, ReadFault>
+        requires { at + 1 < 2 ^ 64 }
         ensures { Steps self.old self.new at byte result }
     {
-        match (self.stage, kind_of(byte)) {
-            (Stage::Opened, Kind::White) => {
-                self.stage = Stage::Gap;
-                Ok(())
-            }
-            (Stage::Gap, Kind::White) => Ok(()),
-            (Stage::Gap, Kind::Digit(d)) => {
-                self.stage = Stage::Digits;
-                self.start = at;
-                self.value = usize::from(d);
-                Ok(())
-            }
+        self.stage = match (self.stage, kind_of(byte)) {
+            (Stage::Opened, Kind::White) => Stage::Gap,
+            (Stage::Gap, Kind::White) => Stage::Gap,
+            (Stage::Gap, Kind::Digit(d)) => Stage::Digits {
+                start: at,
+                value: usize::from(d),
+            },
             // A number too large for the type stays too large for its field.
-            (Stage::Digits, Kind::Digit(d)) => {
-                self.value = self.value.saturating_mul(10).saturating_add(usize::from(d));
-                Ok(())
-            }
-            (Stage::Digits, Kind::White) => self.close(),
-            _ => Err(ReadFault::Misplaced(at)),
-        }
+            (Stage::Digits { start, value }, Kind::Digit(d)) => Stage::Digits {
+                start,
+                value: value.saturating_mul(10).saturating_add(usize::from(d)),
+            },
+            (Stage::Digits { start, value }, Kind::White) => return self.close(at, start, value),
+            _ => return Err(ReadFault::Misplaced(at)),
+        };
+        Ok(None)
     }
 }
 
@@ -152,20 +135,8 @@ pub(crate) fn read_shape(rest: &[u8]) -> Result<Shape, ReadFault>
 {
     let mut machine = HeaderMachine::new();
     for (i, byte) in rest.iter().enumerate() {
-        machine.step(i + 2, *byte)?;
-        if let Stage::Done = machine.stage {
-            let HeaderMachine {
-                columns,
-                rows,
-                maxval,
-                ..
-            } = machine;
-            return Ok(Shape {
-                columns,
-                rows,
-                maxval,
-                first: i + 3,
-            });
+        if let Some(shape) = machine.step(i + 2, *byte)? {
+            return Ok(shape);
         }
     }
     Err(ReadFault::Misplaced(rest.len() + 2))

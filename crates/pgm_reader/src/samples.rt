@@ -6,10 +6,5 @@ ghost use Rattle.pgm_reader.specs.Format.{first_above_of};
 pub(crate) fn first_above(bytes: &[u8], top: u8) -> Option<usize>
     ensures { result ≡ first_above_of top bytes.now }
 {
-    for (i, byte) in bytes.iter().enumerate() {
-        if *byte > top {
-            return Some(i);
-        }
-    }
-    None
+    bytes.iter().position(|byte| *byte > top)
 }
