@@ -1,24 +1,7 @@
 -- How many bytes at the front pass a test.
-use Rattle.std.proofs.Common.{◌≡◌, ℕ, zero, suc, ◌+◌, ◌<◌, ◌≤◌, Bool, true, false, cond, List, [], ◌∷◌, ◌++◌, length, get_or, take, drop, sym, refl, ap, ◌∙◌, subst, arith}
+use Rattle.std.proofs.Common.{◌≡◌, ℕ, zero, suc, ◌<◌, ◌≤◌, Bool, true, false, cond, List, [], ◌∷◌, ◌++◌, length, take, sym, refl, ap, ◌∙◌, subst, arith}
 use Rattle.std.specs.List.{AllByRecursion}
-use Rattle.std.proofs.lemmas.List.{at_drop_more, at_drop_all}
 use Rattle.pgm_reader.specs.Format.{run, starts}
-
--- a loop that counts them: one more, the first that fails, and the end
-pub run_more : (t : ℕ → Bool) (xs : List ℕ) (i : ℕ) → i < length xs → t (get_or xs i 0) ≡ true → run t xs ≡ i + run t (drop i xs) → run t xs ≡ i + 1 + run t (drop (i + 1) xs)
-run_more t xs i h e inv =
-    let s : run t (drop i xs) ≡ suc (run t (drop (i + 1) xs)) = at_drop_more (run t) xs i 0 h ∙ ap (λ v. cond v (suc (run t (drop (i + 1) xs))) 0) e in
-    omega (arith, s, inv)
-
-pub run-stop : (t : ℕ → Bool) (xs : List ℕ) (i : ℕ) → i < length xs → t (get_or xs i 0) ≡ false → run t xs ≡ i + run t (drop i xs) → run t xs ≡ i
-run-stop t xs i h e inv =
-    let s : run t (drop i xs) ≡ 0 = at_drop_more (run t) xs i 0 h ∙ ap (λ v. cond v (suc (run t (drop (i + 1) xs))) 0) e in
-    omega (arith, s, inv)
-
-pub run-all : (t : ℕ → Bool) (xs : List ℕ) (i : ℕ) → length xs ≤ i → run t xs ≡ i + run t (drop i xs) → run t xs ≡ i
-run-all t xs i h inv =
-    let s : run t (drop i xs) ≡ 0 = at_drop_all (run t) xs i h in
-    omega (arith, s, inv)
 
 pub run-le : (t : ℕ → Bool) (bs : List ℕ) → run t bs ≤ length bs
 run-le t [] = omega arith

@@ -1,7 +1,7 @@
 -- One byte of a header.
-use Rattle.std.proofs.Common.{◌≡◌, ℕ, suc, ◌+◌, ◌-◌, ◌*◌, ◌<◌, ◌≤◌, min, Bool, true, false, cond, ◌&&◌, leb, List, [], ◌∷◌, length, get_or, take, drop, Ok, Err, Option, Result, sym, refl, ap, ◌∙◌, subst, ⊎_elim, add-zero, arith}
+use Rattle.std.proofs.Common.{◌≡◌, ℕ, suc, ◌+◌, ◌-◌, ◌*◌, ◌<◌, ◌≤◌, min, Bool, true, false, cond, ◌&&◌, leb, List, [], ◌∷◌, length, get_or, take, drop, Ok, Err, Option, Result, sym, ap, ◌∙◌, subst, ⊎_elim, add-zero, arith}
 use Rattle.std.proofs.str.Laws.{order}
-use Rattle.std.proofs.lemmas.List.{at_drop_more, at_drop_all}
+use Rattle.std.proofs.lemmas.List.{at_drop_more}
 use Rattle.faults.specs.Faults.{fault}
 use Rattle.pgm_reader.specs.declared.fault.ReadFault.{ReadFault}
 use Rattle.pgm_reader.specs.declared.header.Kind.TheVariants.{White, Digit}
@@ -117,28 +117,11 @@ pub on-closed : (m m' : HeaderMachine) (start value p b : ℕ) (answer : Result 
 on-closed m m' start value p b answer e k h =
     λ bs. ap (λ s. on_stage m.field s p (b ∷ bs)) e ∙ ap (on_field m.field) (digits-white _ value start p b bs (white-no-digit b (white-is b k))) ∙ h b bs (white-is b k)
 
--- the header ended in mid-way
-at-end : (m : HeaderMachine) (p : ℕ) → left m p [] ≡ Err (fault 1 12 p)
-at-end m p = by m.stage
-  where
-    stuck : (f : Field) (q : ℕ) → q ≡ p → on_field f (Err (fault 1 12 q)) ≡ Err (fault 1 12 p)
-    stuck Columns q e = ap (λ q. Err (fault 1 12 q)) e
-    stuck (Rows c) q e = ap (λ q. Err (fault 1 12 q)) e
-    stuck (Maxval c r) q e = ap (λ q. Err (fault 1 12 q)) e
-
-    by : (s : Stage) → on_stage m.field s p [] ≡ Err (fault 1 12 p)
-    by Opened = stuck m.field p refl
-    by Gap = stuck m.field (p + 0) (add-zero p)
-    by (Digits start value) = stuck m.field (p + 0) (add-zero p)
-
 -- the loop at place i + 2 of the file: what the header will be
 abbrev pub Reached : List ℕ → ℕ → HeaderMachine → Type 0
 Reached rest i m = left m (i + 2) (drop i rest) ≡ shape_of rest
 
--- one turn, and the end
+-- one turn
 pub turned : (m m' : HeaderMachine) (answer : Result (Option Shape) ReadFault) (i : ℕ) (rest : List ℕ) → i < length rest → Reached rest i m → Steps m m' (i + 2) (get_or rest i 0) answer → answered m' answer (i + 1 + 2) (drop (i + 1) rest) ≡ shape_of rest
 turned m m' answer i rest h r on =
     ap (λ p. answered m' answer p (drop (i + 1) rest)) (omega arith) ∙ sym (on (drop (i + 1) rest)) ∙ sym (at_drop_more (left m (i + 2)) rest i 0 h) ∙ r
-
-pub reached-end : (m : HeaderMachine) (i : ℕ) (rest : List ℕ) → length rest ≤ i → i ≤ length rest → Reached rest i m → Err (fault 1 12 (length rest + 2)) ≡ shape_of rest
-reached-end m i rest a b r = ap (λ n. Err (fault 1 12 (n + 2))) (omega arith) ∙ sym (at-end m (i + 2)) ∙ sym (at_drop_all (left m (i + 2)) rest i a) ∙ r

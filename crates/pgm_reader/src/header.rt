@@ -47,13 +47,15 @@ pub(crate) struct HeaderMachine {
     field: Field,
 }
 
-fn kind_of(byte: u8) -> Kind
-    ensures { result ≡ kind_of byte }
-{
-    match byte {
-        b' ' | b'\t' | b'\n' | b'\r' => Kind::White,
-        b'0'..=b'9' => Kind::Digit(byte - b'0'),
-        _ => Kind::Other,
+impl From<u8> for Kind {
+    ghost from_gives = { λ byte kind. kind ≡ kind_of byte };
+
+    fn from(byte: u8) -> Kind {
+        match byte {
+            b' ' | b'\t' | b'\n' | b'\r' => Kind::White,
+            b'0'..=b'9' => Kind::Digit(byte - b'0'),
+            _ => Kind::Other,
+        }
     }
 }
 
@@ -110,7 +112,7 @@ impl HeaderMachine {
         requires { at + 1 < 2 ^ 64 }
         ensures { Steps self.old self.new at byte result }
     {
-        self.stage = match (self.stage, kind_of(byte)) {
+        self.stage = match (self.stage, Kind::from(byte)) {
             (Stage::Opened, Kind::White) => Stage::Gap,
             (Stage::Gap, Kind::White) => Stage::Gap,
             (Stage::Gap, Kind::Digit(d)) => Stage::Digits {

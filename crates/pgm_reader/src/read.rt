@@ -62,6 +62,7 @@ fn read_behind(bytes: &[u8], rest: &[u8]) -> Result<Header, ReadFault>
 }
 
 // The header of a binary grey map whose samples are all there and none above its maxval.
+#[tactic(auto, unfolding(crate::specs::Format::image_of))]
 pub fn read(bytes: &[u8]) -> Result<Header, ReadFault>
     ensures answer { told read_fault result ≡ image_of bytes.now }
     ensures grammar { Maps bytes.now result }

@@ -5,7 +5,7 @@ ghost use Rattle.text.specs.Texts.{clipped, line, copy_answer, copy_buffer};
 use faults::ShortBuffer;
 use std::marker::Model;
 
-// No heap: the bytes and their number. Those behind the text are 0, so that two equal texts are equal byte by byte.
+// No heap: the bytes and their number. The bytes behind the text are 0, so the text alone says what the fields are.
 #[derive(Clone, Copy)]
 pub struct Text {
     bytes: [u8; 256],

@@ -12,6 +12,6 @@ returns c =
     λ bs. let m = c.args.self.now in elim c.match-self.branch [
       | in-Opened-White w ↦ let h = w.in-Opened-White in on-opened m _ _ _ bs h.is-0 (sym h.ensures) w.self-is
       | in-Gap-White w ↦ let h = w.in-Gap-White in on-gap m _ _ _ bs h.is-0 (sym h.ensures) w.self-is
-      | in-Gap-Digit w ↦ let h = w.in-Gap-Digit in on-first m _ _ _ w.from.result bs h.is-0 (sym h.ensures ∙ ap Digit (sym w.from.ensures)) w.self-is
+      | in-Gap-Digit w ↦ let h = w.in-Gap-Digit in on-first m _ _ _ w.from-in-Gap-Digit.result bs h.is-0 (sym h.ensures ∙ ap Digit (sym w.from-in-Gap-Digit.ensures)) w.self-is
       | in-Digits-Digit w ↦ let h = w.in-Digits-Digit in on-digit m _ _ _ _ _ h.d w.saturating_add.result bs h.is-0 (sym h.ensures) (omega arith) w.self-is
     ]

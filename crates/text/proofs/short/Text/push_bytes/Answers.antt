@@ -1,6 +1,6 @@
 use Rattle.std.proofs.Common.{[], ◌∷◌, ◌++◌, get_or, take, subst, sym, ap, ◌∙◌}
 use Rattle.std.specs.Prelude.{◌≤◌, length}
-use Rattle.std.proofs.lemmas.List.{take_more, take_all}
+use Rattle.std.proofs.lemmas.List.{take_more}
 use Rattle.text.specs.Texts.{clipped}
 use Rattle.text.proofs.Clips.{clipped-nil, text-short, clipped-then}
 use Rattle.text.proofs.short.Text.push_bytes.Goals as goal
@@ -16,7 +16,3 @@ loop-byte-preserved c =
     c.push_byte.ensures
     ∙ clipped-then start c.loop-byte.self (take i bytes) (get_or bytes i 0 ∷ []) c.loop-byte.invariant
     ∙ ap (λ l. clipped (start ++ l)) (sym (take_more bytes i 0 c.loop-byte-test.true))
-
-pub returns : goal.returns
-returns c =
-    c.loop-byte.invariant ∙ ap (λ l. clipped (c.args.self.now ++ l)) (take_all c.loop-byte.byte-index c.args.bytes.now c.loop-byte-test.false)
