@@ -51,7 +51,7 @@ impl Text {
     pub fn push_bytes(&mut self, bytes: &[u8])
         ensures { self.new ≡ clipped (self.old ++ bytes.now) }
     {
-        // There are at most 256 bytes to begin with.
+        // So that the proof knows that there are at most 256 bytes.
         let _ = &self.bytes;
         for byte in bytes {
             self.push_byte(*byte);
