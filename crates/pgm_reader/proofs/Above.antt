@@ -26,7 +26,7 @@ none_above top xs e =
     All-weaker (λ b. t b ≡ true) (λ b. b ≤ top) (λ b f. leb-true b top f) xs all
   where
     by : (b : Bool) → ltb (up_to top xs) (length xs) ≡ b → cond b (Some (up_to top xs)) None ≡ None → length xs ≤ up_to top xs
-    by true t e = let z : ◌≡◌ {A = ℕ} 0 1 = cc in absurd (omega arith)
+    by true t e = grind arith
     by false t e = ltb-false (up_to top xs) (length xs) t
 
 pub all_none : (top : ℕ) (xs : List ℕ) → AllByRecursion (λ b. b ≤ top) xs → first_above_of top xs ≡ None

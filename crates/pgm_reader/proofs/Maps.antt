@@ -17,11 +17,11 @@ use Rattle.pgm_reader.proofs.Above.{none_above, all_none}
 
 cond_no : {X : Type 0} (b : Bool) (x : Result X Fault) (e : Fault) (f : X) → cond b (Err e) x ≡ Ok f → (b ≡ false) × (x ≡ Ok f)
 cond_no false x e f h = (refl, h)
-cond_no true x e f h = let z : ◌≡◌ {A = ℕ} 0 1 = cc in absurd (omega arith)
+cond_no true x e f h = grind arith
 
 unless-ok : (o : Option ℕ) (a h : Header) → unless_above a o ≡ Ok h → (o ≡ None) × (h ≡ a)
 unless-ok None a h e = (refl, cc)
-unless-ok (Some i) a h e = let z : ◌≡◌ {A = ℕ} 0 1 = cc in absurd (omega arith)
+unless-ok (Some i) a h e = grind arith
 
 same-header : (a b : Header) → a.columns ≡ b.columns → a.rows ≡ b.rows → a.maxval ≡ b.maxval → a.first ≡ b.first → a.end ≡ b.end → a ≡ b
 same-header a b p q r s t = λ i. record { columns = p i; rows = q i; maxval = r i; first = s i; end = t i }
@@ -89,8 +89,8 @@ sound-at bs h s e f =
 
 pub sound : (bs : List ℕ) (h : Header) → image_of bs ≡ Ok h → GreyMap bs h
 unfolding image_of
-sound [] h e = let z : ◌≡◌ {A = ℕ} 0 1 = cc in absurd (omega arith)
-sound (a ∷ []) h e = let z : ◌≡◌ {A = ℕ} 0 1 = cc in absurd (omega arith)
+sound [] h e = grind arith
+sound (a ∷ []) h e = grind arith
 sound (a ∷ b ∷ bs) h e =
     let k = cond-ok (eqb a 80 && eqb b 53) _ _ h e in
     let p : a ≡ 80 = is-p k.0 in
@@ -138,4 +138,4 @@ complete bs h m =
 
 pub maps-told : (bs : List ℕ) (r : Result Header ReadFault) → told read_fault r ≡ image_of bs → Maps bs r
 maps-told bs (Ok h) e = sound bs h (sym e)
-maps-told bs (Err f) e = λ h m. let k : ◌≡◌ {A = Result Header Fault} (Err (read_fault f)) (Ok h) = e ∙ complete bs h m in let z : ◌≡◌ {A = ℕ} 0 1 = cc in omega arith
+maps-told bs (Err f) e = λ h m. let no : ◌≡◌ {A = Result Header Fault} (Err (read_fault f)) (Ok h) = e ∙ complete bs h m in grind arith

@@ -10,7 +10,7 @@ use Rattle.pgm_reader.proofs.Runs.{run-le, all-run, run-some, run-front, run-ful
 
 pub cond-ok : {X : Type 0} (b : Bool) (x : Result X Fault) (e : Fault) (f : X) → cond b x (Err e) ≡ Ok f → (b ≡ true) × (x ≡ Ok f)
 cond-ok true x e f h = (refl, h)
-cond-ok false x e f h = let z : ◌≡◌ {A = ℕ} 0 1 = cc in absurd (omega arith)
+cond-ok false x e f h = grind arith
 
 digit-no-white : (b : ℕ) → digit b ≡ true → white b ≡ false
 digit-no-white b e = grind arith
@@ -93,7 +93,7 @@ closes-no-digit rule (b ∷ bs) h = white-no-digit b h
 
 -- a gap closes the number before it
 pub closes-gap : (rule : NumberRule) (ws rest : List ℕ) → starts white ws ≡ true → closes rule (ws ++ rest) ≡ true
-closes-gap rule [] rest h = let z : ◌≡◌ {A = ℕ} 0 1 = cc in absurd (omega arith)
+closes-gap rule [] rest h = grind arith
 closes-gap rule (w ∷ ws) rest h = h
 
 pub closed_is : (rule : NumberRule) (v d q : ℕ) (rs : List ℕ) → rule.low ≤ v → v ≤ rule.high → closes rule rs ≡ true → closed rule v d q rs ≡ Ok (found v q rs)

@@ -8,7 +8,7 @@ use Rattle.pgm_reader.proofs.Numbers.{Divides, divides, divides-length}
 
 pub then_ok : {X Y : Type 0} (r : Result X Fault) (k : X → Result Y Fault) (y : Y) → and_then r k ≡ Ok y → (x : X) × (r ≡ Ok x) × (k x ≡ Ok y)
 then_ok (Ok x) k y h = (x, refl, h)
-then_ok (Err e) k y h = let z : ◌≡◌ {A = ℕ} 0 1 = cc in absurd (omega arith)
+then_ok (Err e) k y h = grind arith
 
 -- the three numbers of an accepted header, one behind the other
 pub record Parts (bs : List ℕ) (s : Shape) : Type 0 where
@@ -42,7 +42,7 @@ parts bs s h =
 
 -- the white byte behind a header's number
 pub closing-white : (top : ℕ) (bs : List ℕ) → closes (header_rule top) bs ≡ true → (b : ℕ) × (rest : List ℕ) × (bs ≡ b ∷ rest) × (white b ≡ true)
-closing-white top [] h = let z : ◌≡◌ {A = ℕ} 0 1 = cc in absurd (omega arith)
+closing-white top [] h = grind arith
 closing-white top (b ∷ bs) h = (b, bs, refl, h)
 
 pub shape-bounds : (bs : List ℕ) (s : Shape) → shape_of bs ≡ Ok s → ((s.columns ≤ 4096) × (s.rows ≤ 4096)) × (s.first ≤ length bs + 2)
