@@ -8,7 +8,7 @@ use Rattle.pgm_reader.specs.Format.{run, up_to, first_above_of}
 use Rattle.pgm_reader.proofs.Runs.{all-run, run-full}
 
 above-none : (top : ℕ) (xs : List ℕ) → length xs ≤ up_to top xs → first_above_of top xs ≡ None
-above-none top xs h = ap (λ b. cond b (Some (up_to top xs)) None) (le-ltb (up_to top xs) (length xs) h)
+above-none top xs h = grind arith
 
 -- the first byte above top, in std's words
 pub position_above : (top : ℕ) (xs : List ℕ) → position (λ b. ltb top b) xs ≡ first_above_of top xs
@@ -21,13 +21,9 @@ position_above top xs = ap (λ n. cond (ltb n (length xs)) (Some n) None) (sym (
 pub none_above : (top : ℕ) (xs : List ℕ) → first_above_of top xs ≡ None → AllByRecursion (λ b. b ≤ top) xs
 none_above top xs e =
     let t : ℕ → Bool = λ b. leb b top in
-    let long : length xs ≤ up_to top xs = by (ltb (up_to top xs) (length xs)) refl e in
+    let long : length xs ≤ up_to top xs = grind arith in
     let all : AllByRecursion (λ b. t b ≡ true) xs = subst (AllByRecursion (λ b. t b ≡ true)) (take_all (run t xs) xs long) (all-run t xs) in
     All-weaker (λ b. t b ≡ true) (λ b. b ≤ top) (λ b f. leb-true b top f) xs all
-  where
-    by : (b : Bool) → ltb (up_to top xs) (length xs) ≡ b → cond b (Some (up_to top xs)) None ≡ None → length xs ≤ up_to top xs
-    by true t e = grind arith
-    by false t e = ltb-false (up_to top xs) (length xs) t
 
 pub all_none : (top : ℕ) (xs : List ℕ) → AllByRecursion (λ b. b ≤ top) xs → first_above_of top xs ≡ None
 all_none top xs all =

@@ -23,36 +23,23 @@ digit-is b d e = grind arith
 
 -- a byte of a gap
 gap-white : (rule : NumberRule) (p b : ℕ) (bs : List ℕ) → white b ≡ true → gap_at rule p (b ∷ bs) ≡ gap_at rule (p + 1) bs
-gap-white rule p b bs e =
-    let n : Bool → ℕ = λ v. cond v (suc (run white bs)) 0 in
-    subst (λ v. digits_at rule (p + n v) (drop (n v) (b ∷ bs)) ≡ gap_at rule (p + 1) bs) (sym e)
-    (ap (λ q. digits_at rule q (drop (run white bs) bs)) (omega arith))
+gap-white rule p b bs e = grind arith
 
 -- the first byte of a gap
 number-white : (rule : NumberRule) (p b : ℕ) (bs : List ℕ) → white b ≡ true → number_at rule p (b ∷ bs) ≡ gap_at rule (p + 1) bs
-number-white rule p b bs e = subst (λ v. cond v (gap_at rule p (b ∷ bs)) (Err (fault 1 rule.malformed p)) ≡ gap_at rule (p + 1) bs) (sym e) (gap-white rule p b bs e)
+number-white rule p b bs e = grind (arith, gap-white rule p b bs e)
 
 -- a digit behind digits
 digits-digit : (rule : NumberRule) (v d p b : ℕ) (bs : List ℕ) → digit b ≡ true → digits_on rule v d p (b ∷ bs) ≡ digits_on rule (v * 10 + (b - 48)) d (p + 1) bs
-digits-digit rule v d p b bs e =
-    let n : Bool → ℕ = λ x. cond x (suc (run digit bs)) 0 in
-    subst (λ x. closed rule (value_from v (take (n x) (b ∷ bs))) d (p + n x) (drop (n x) (b ∷ bs)) ≡ digits_on rule (v * 10 + (b - 48)) d (p + 1) bs) (sym e)
-    (ap (λ q. closed rule (value_from (v * 10 + (b - 48)) (take (run digit bs) bs)) d q (drop (run digit bs) bs)) (omega arith))
+digits-digit rule v d p b bs e = grind arith
 
 -- the first digit behind a gap
 gap-digit : (rule : NumberRule) (p b : ℕ) (bs : List ℕ) → white b ≡ false → digit b ≡ true → gap_at rule p (b ∷ bs) ≡ digits_on rule (b - 48) p (p + 1) bs
-gap-digit rule p b bs e f =
-    let n : Bool → ℕ = λ v. cond v (suc (run white bs)) 0 in
-    subst (λ v. digits_at rule (p + n v) (drop (n v) (b ∷ bs)) ≡ digits_on rule (b - 48) p (p + 1) bs) (sym e)
-    (rw (add-zero p) (subst (λ v. cond v (digits_on rule 0 p p (b ∷ bs)) (Err (fault 1 rule.malformed p)) ≡ digits_on rule (b - 48) p (p + 1) bs) (sym f)
-    (digits-digit rule 0 p p b bs f ∙ ap (λ v. digits_on rule v p (p + 1) bs) (omega arith))))
+gap-digit rule p b bs e f = grind (arith, digits-digit rule 0 p p b bs f)
 
 -- a white byte behind digits
 digits-white : (rule : NumberRule) (v d p b : ℕ) (bs : List ℕ) → digit b ≡ false → digits_on rule v d p (b ∷ bs) ≡ closed rule v d p (b ∷ bs)
-digits-white rule v d p b bs e =
-    let n : Bool → ℕ = λ x. cond x (suc (run digit bs)) 0 in
-    subst (λ x. closed rule (value_from v (take (n x) (b ∷ bs))) d (p + n x) (drop (n x) (b ∷ bs)) ≡ closed rule v d p (b ∷ bs)) (sym e)
-    (ap (λ q. closed rule v d q (b ∷ bs)) (add-zero p))
+digits-white rule v d p b bs e = grind arith
 
 -- numbers past the largest are refused alike, so it does no harm that the code's saturate
 closed-large : (rule : NumberRule) (x y d q : ℕ) (rs : List ℕ) → rule.high < x → rule.high < y → closed rule x d q rs ≡ closed rule y d q rs
