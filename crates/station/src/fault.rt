@@ -26,11 +26,11 @@ pub enum StationFault {
     ShortBuffer(usize),
 }
 
-impl StationFault {
-    pub fn fault(self) -> Fault
-        ensures { result ≡ station_fault self }
-    {
-        let (number, detail) = match self {
+impl From<StationFault> for Fault {
+    ghost from_gives = { λ f r. r ≡ station_fault f };
+
+    fn from(refusal: StationFault) -> Fault {
+        let (number, detail) = match refusal {
             StationFault::NoCut => (22, 0),
             StationFault::Lacking(level) => (23, level as usize),
             StationFault::NoPixel => (31, 0),

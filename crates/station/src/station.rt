@@ -50,14 +50,11 @@ impl<R: DistanceRule> Station<R> {
         ensures outcome { outcome (done_or result) (account_of self.new) ≡ step (R.DistanceRule.table self.old.rule) (account_of self.old) (lay (P.Picture.shown picture.now)) }
         ensures rule { self.new.rule ≡ self.old.rule }
     {
-        let Some(more) = Tally::of_picture(picture) else {
-            return Err(StationFault::TooMany);
-        };
+        let more = Tally::of_picture(picture).ok_or(StationFault::TooMany)?;
         if more.total() == 0 {
             return Err(StationFault::NoPixel);
         }
-        self.tally.add(&more)?;
-        Ok(())
+        Ok(self.tally.add(&more)?)
     }
 
     // Takes a picture's pixels out of those in hand.
@@ -107,21 +104,15 @@ impl<R: DistanceRule> Station<R> {
         ensures buffer { buffer.new ≡ paint_buffer (account_of self.now).cuts (P.Picture.shown picture.now) buffer.old }
         ensures change { (bs : List BandHeld) → (account_of self.now).cuts ≡ Some bs → is_ok result ≡ true → changed (R.DistanceRule.table self.now.rule) (P.Picture.shown picture.now).levels (take (size (P.Picture.shown picture.now)) buffer.new) ≡ change_of (R.DistanceRule.table self.now.rule) bs (histogram_of (P.Picture.shown picture.now).levels) }
     {
-        let Some(set) = self.cuts else {
-            return Err(StationFault::NoCut);
-        };
-        painting::paint(&set, picture, buffer)?;
-        Ok(())
+        let set = self.cuts.ok_or(StationFault::NoCut)?;
+        Ok(painting::paint(&set, picture, buffer)?)
     }
 
     // A band of the last cut set by its number, counted from 1; none where it is absent.
     pub fn band(&self, number: usize) -> Option<Band>
         ensures { result ≡ band_held (account_of self.now).cuts number }
     {
-        match self.cuts {
-            None => None,
-            Some(set) => set.band(number),
-        }
+        self.cuts?.band(number)
     }
 
     // The histogram of the pixels in hand.

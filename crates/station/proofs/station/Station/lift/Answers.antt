@@ -1,4 +1,4 @@
-use Rattle.std.proofs.Common.{sym, refl, ◌∙◌}
+use Rattle.std.proofs.Common.{sym, ◌∙◌}
 use Rattle.histogram.specs.Tallies.{counts_of}
 use Rattle.station.specs.declared.fault.StationFault.TheVariants.{Lacking}
 use Rattle.station.specs.States.{account_of}
@@ -6,31 +6,20 @@ use Rattle.station.proofs.Refusals.{refused-by}
 use Rattle.station.proofs.Lifts.{lifted-none, lifted-lacking, lifted-done}
 use Rattle.station.proofs.station.Station.lift.Goals as goal
 
-pub returns-then-total-eq0 : goal.returns-then-total-eq0
-returns-then-total-eq0 g c =
-    let p = c.args.picture.now in
-    record {
-      outcome = lifted-none (account_of c.args.self.now) (g.P.Picture.shown p) (g.P.Picture.sound p) c.of_picture-less.result.counts c.of_picture-less.ensures (sym c.total.ensures ∙ c.if-total-eq0.true);
-      rule = refl;
-    }
+pub returns-then-total-eq0-clause-outcome : goal.returns-then-total-eq0-clause-outcome
+returns-then-total-eq0-clause-outcome g c =
+    lifted-none (account_of c.args.self.now) (g.P.Picture.shown c.args.picture.now) (g.P.Picture.sound c.args.picture.now) c.of_picture-less.result.counts c.of_picture-less.ensures
+    (sym c.total.ensures ∙ c.if-total-eq0.true)
 
-pub returns-in_err-remove : goal.returns-in_err-remove
-returns-in_err-remove g c =
-    let p = c.args.picture.now in
+pub returns-in_err-remove-clause-outcome : goal.returns-in_err-remove-clause-outcome
+returns-in_err-remove-clause-outcome g c =
     let a = account_of c.args.self.now in
     let v = c.in_err-remove.field-0.0.level in
-    record {
-      outcome =
-          refused-by a (counts_of c.remove.new.self) (Lacking v) c.from_residual.result c.from_residual.ensures.1 c.in_err-remove.ensures.after
-          ∙ lifted-lacking a (g.P.Picture.shown p) (g.P.Picture.sound p) c.of_picture-less.result.counts c.of_picture-less.ensures v (λ z. c.if-total-eq0.false (c.total.ensures ∙ z)) c.in_err-remove.ensures.answer;
-      rule = refl;
-    }
+    refused-by a (counts_of c.remove.new.self) (Lacking v) c.from_residual.result c.from_residual.ensures.1 c.in_err-remove.ensures.after
+    ∙ lifted-lacking a (g.P.Picture.shown c.args.picture.now) (g.P.Picture.sound c.args.picture.now) c.of_picture-less.result.counts c.of_picture-less.ensures
+    v (λ z. c.if-total-eq0.false (c.total.ensures ∙ z)) c.in_err-remove.ensures.answer
 
-pub returns-in_ok-remove : goal.returns-in_ok-remove
-returns-in_ok-remove g c =
-    let p = c.args.picture.now in
-    record {
-      outcome = lifted-done (account_of c.args.self.now) (g.P.Picture.shown p) (g.P.Picture.sound p) c.of_picture-less.result.counts c.of_picture-less.ensures (counts_of c.remove.new.self)
-          (λ z. c.if-total-eq0.false (c.total.ensures ∙ z)) c.in_ok-remove.ensures.answer c.in_ok-remove.ensures.after;
-      rule = refl;
-    }
+pub returns-in_ok-remove-clause-outcome : goal.returns-in_ok-remove-clause-outcome
+returns-in_ok-remove-clause-outcome g c =
+    lifted-done (account_of c.args.self.now) (g.P.Picture.shown c.args.picture.now) (g.P.Picture.sound c.args.picture.now) c.of_picture-less.result.counts c.of_picture-less.ensures
+    (counts_of c.remove.new.self) (λ z. c.if-total-eq0.false (c.total.ensures ∙ z)) c.in_ok-remove.ensures.answer c.in_ok-remove.ensures.after
