@@ -1,2 +1,3 @@
 mod Rows
+mod Tables
 mod Totals

@@ -3,7 +3,7 @@ use Rattle.std.specs.Prelude.{ℕ, cond, List, ◌++◌, map, length, drop, Ok, 
 use Rattle.pictures.specs.Raster.{Raster, size}
 use Rattle.cut_sets.specs.declared.band.Band.{Band}
 use Rattle.cut_sets.specs.Painted.{painted}
-use Rattle.painting.specs.declared.ShortBuffer.{ShortBuffer}
+use Rattle.faults.specs.declared.ShortBuffer.{ShortBuffer}
 
 -- A buffer after a picture was painted into it: a byte for each pixel, row by row, and behind them what was there.
 abbrev pub painted_over : List Band → Raster → List ℕ → List ℕ

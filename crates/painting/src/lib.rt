@@ -13,13 +13,8 @@ use pictures::Picture;
 
 mod palette;
 
+pub use faults::ShortBuffer;
 pub use palette::Palette;
-
-// The buffer has fewer bytes than the picture has pixels; how many are needed.
-#[derive(Clone, Copy, PartialEq, Eq, Debug)]
-pub struct ShortBuffer {
-    pub needed: usize,
-}
 
 // Writes a byte for each pixel, row by row, at the front of a buffer: the level of the pixel's band.
 // Refused, and nothing written, where the buffer is too short.
@@ -47,6 +42,7 @@ fn paint_rows<P: Picture>(set: &CutSet, picture: &P, buffer: &mut [u8])
     let rows = picture.rows();
     for y in 0..rows {
         let start = y * columns;
+        // Counted by place, since the picture is asked by the same numbers.
         for x in 0..columns {
             if let Some(level) = picture.level(x, y) {
                 buffer[start + x] = palette.level_of(level);

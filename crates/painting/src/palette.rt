@@ -5,6 +5,7 @@ ghost use Rattle.cut_sets.specs.Painted.{painted};
 ghost use Rattle.cut_sets.specs.Sets.{bands_of};
 
 use cut_sets::cut_set::CutSet;
+use std::array;
 
 // What a cut set paints each of the 256 levels with.
 #[derive(Clone, Copy)]
@@ -16,11 +17,9 @@ impl Palette {
     pub fn new(set: &CutSet) -> Palette
         ensures { result.levels ≡ each (painted (bands_of set.now)) }
     {
-        let mut levels = [0; 256];
-        for level in 0..256usize {
-            levels[level] = set.level_of(level as u8);
+        Palette {
+            levels: array::from_fn(|level| set.level_of(level as u8)),
         }
-        Palette { levels }
     }
 
     // What a level is painted with.

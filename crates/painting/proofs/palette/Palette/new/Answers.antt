@@ -1,17 +1,12 @@
-use Rattle.std.proofs.Common.{◌<◌, ◌≢◌, length, ◌∙◌, arith, below_more}
-use Rattle.std.proofs.lemmas.List.{length-set, get_or-set_same, get_or-set_other}
+use Rattle.std.proofs.Common.{rules, ◌≡◌, refl}
 use Rattle.histogram.proofs.Eachs.{each_all}
 use Rattle.cut_sets.specs.Painted.{painted}
 use Rattle.cut_sets.specs.Sets.{bands_of}
+use Rattle.painting.proofs.Tables.{filled}
 use Rattle.painting.proofs.palette.Palette.new.Goals as goal
 
-pub loop-level-preserved : goal.loop-level-preserved
-loop-level-preserved c =
-    let i = c.loop-level.level in
-    let l : i < length c.loop-level.levels = omega (arith, c.loop-level.invariant.0) in (
-      length-set _ _ _ ∙ c.loop-level.invariant.0,
-      below_more _ _ (λ k h. let ne : k ≢ i = omega arith in rw get_or-set_other (c.loop-level.invariant.1 k h)) (rw get_or-set_same c.level_of.ensures.value),
-    )
-
 pub returns : goal.returns
-returns c = each_all (painted (bands_of c.args.set.now)) c.loop-level.levels c.loop-level.invariant.0 (λ k h. c.loop-level.invariant.1 k (omega arith))
+returns c =
+    let set = c.args.set.now in
+    each_all (painted (bands_of set)) c.from_fn.result c.from_fn.ensures.items.long
+    (λ k h. filled _ (λ f. bands_of f.0.now ≡ bands_of set) (painted (bands_of set)) (λ f i y q a call. search rules) _ refl c.from_fn.result 256 c.from_fn.ensures.items k h)
