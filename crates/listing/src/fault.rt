@@ -1,13 +1,13 @@
 // What stops a listing. The faults of the reader and of the station go up whole.
 ghost use Rattle.std.specs.Prelude.{◌≡◌};
 ghost use Rattle.listing.specs.Faults.{list_fault};
-ghost use Rattle.listing.specs.declared.fault.ListFault.TheVariants.{Read, Station};
+ghost use Rattle.listing.specs.declared.fault.ListFault.TheVariants.{Read, Station, Short};
 
-use faults::Fault;
+use faults::{Fault, ShortBuffer};
 use pgm_reader::fault::ReadFault;
 use station::fault::StationFault;
 
-#[derive(Clone, Copy, PartialEq, Debug)]
+#[derive(Clone, Copy, PartialEq, Eq, Debug)]
 pub enum ListFault {
     Read(ReadFault),
     Station(StationFault),
@@ -15,13 +15,13 @@ pub enum ListFault {
     Short(usize),
 }
 
-impl ListFault {
-    pub fn fault(self) -> Fault
-        ensures { result ≡ list_fault self }
-    {
-        match self {
-            ListFault::Read(f) => f.fault(),
-            ListFault::Station(f) => f.fault(),
+impl From<ListFault> for Fault {
+    ghost from_gives = { λ f r. r ≡ list_fault f };
+
+    fn from(refusal: ListFault) -> Fault {
+        match refusal {
+            ListFault::Read(below) => below.into(),
+            ListFault::Station(below) => below.into(),
             ListFault::Short(detail) => Fault {
                 layer: 4,
                 number: 41,
@@ -44,5 +44,13 @@ impl From<StationFault> for ListFault {
 
     fn from(fault: StationFault) -> ListFault {
         ListFault::Station(fault)
+    }
+}
+
+impl From<ShortBuffer> for ListFault {
+    ghost from_gives = { λ s r. r ≡ Short s.needed };
+
+    fn from(short: ShortBuffer) -> ListFault {
+        ListFault::Short(short.needed)
     }
 }

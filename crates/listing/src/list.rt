@@ -26,10 +26,7 @@ fn fit(text: &Text, out: &mut [u8]) -> Result<usize, ListFault>
     ensures answer { told list_fault result ≡ fitted out.old (text_of text.now) }
     ensures buffer { out.new ≡ buffer_after out.old (Ok (text_of text.now)) }
 {
-    match text.copy_to(out) {
-        Ok(length) => Ok(length),
-        Err(needed) => Err(ListFault::Short(needed)),
-    }
+    Ok(text.copy_to(out)?)
 }
 
 // Writes a file's listing to a buffer's front, and answers its length. All other faults come before a buffer that is too short.
@@ -53,8 +50,5 @@ pub fn fault_line(fault: Fault, out: &mut [u8]) -> Result<usize, ListFault>
 pub fn report(file: &[u8]) -> Text
     ensures { text_of result ≡ report_of (file_listing file.now) }
 {
-    match file_text(file) {
-        Ok(text) => text,
-        Err(f) => fault_text(f.fault()),
-    }
+    file_text(file).unwrap_or_else(|refusal| fault_text(refusal.into()))
 }

@@ -2,54 +2,41 @@
 // In the table each file stands behind its length, in decimal digits, and LF.
 #![tactic(auto)]
 
-ghost use Rattle.std.specs.Prelude.{◌≤◌, length, IfSome, IfOk};
+ghost use Rattle.std.specs.Prelude.{◌<◌, length, IfSome, IfOk};
 
 use anyhow::anyhow;
 use listing::list::report;
 use std::io::Read;
 
-// The number on the first line, and how many bytes the line has; none where there is no such line.
-#[derive(Clone, Copy)]
-struct LengthLine {
-    value: usize,
-    bytes: usize,
-}
-
-fn length_line(table: &[u8]) -> Option<LengthLine>
-    ensures { IfSome result (λ l. l.bytes ≤ length table.now) }
+// The number on the first line, and what follows the line; none where there is no such line.
+fn length_line(table: &[u8]) -> Option<(usize, &[u8])>
+    ensures { IfSome result (λ r. length r.1.now < length table.now) }
 {
+    let end = table.iter().position(|byte| *byte == b'\n')?;
     let mut value = 0usize;
-    for (i, byte) in table.iter().enumerate() {
-        if *byte == b'\n' {
-            return Some(LengthLine {
-                value,
-                bytes: i + 1,
-            });
-        }
-        if *byte < b'0' || *byte > b'9' {
+    for byte in &table[..end] {
+        if !byte.is_ascii_digit() {
             return None;
         }
+        // A number too large for the type is longer than any table.
         value = value
             .saturating_mul(10)
-            .saturating_add((*byte - b'0') as usize);
+            .saturating_add(usize::from(*byte - b'0'));
     }
-    None
+    Some((value, &table[end + 1..]))
 }
 
-// Prints one case, and answers how many bytes of the table it took; none where the table ends inside it.
-fn print_case(rt: &HostRuntime, number: u32, table: &[u8]) -> anyhow::Result<Option<usize>>
-    ensures { IfOk result (λ o. IfSome o (λ taken. taken ≤ length table.now)) }
+// Prints one case, and answers the table behind it; an error where the table ends inside it.
+fn print_case<'a>(rt: &HostRuntime, number: u32, table: &'a [u8]) -> anyhow::Result<&'a [u8]>
+    ensures { IfOk result (λ rest. length rest.now < length table.now) }
 {
-    let Some(LengthLine { value, bytes }) = length_line(table) else {
-        return Ok(None);
+    let case = length_line(table).and_then(|(bytes, behind)| behind.split_at_checked(bytes));
+    let Some((file, rest)) = case else {
+        return Err(anyhow!("the table ends inside a case"));
     };
-    let rest = &table[bytes..];
-    if rest.len() < value {
-        return Ok(None);
-    }
     println!(rt; "case {number}")?;
-    rt.write_all(report(&rest[0..value]).as_bytes())?;
-    Ok(Some(bytes + value))
+    rt.write_all(report(file).as_bytes())?;
+    Ok(rest)
 }
 
 fn main(rt: HostRuntime) -> anyhow::Result<()> {
@@ -60,10 +47,7 @@ fn main(rt: HostRuntime) -> anyhow::Result<()> {
         if rest.is_empty() {
             return Ok(());
         }
-        let Some(taken) = print_case(&rt, number, rest)? else {
-            return Err(anyhow!("the table ends inside a case"));
-        };
-        rest = &rest[taken..];
+        rest = print_case(&rt, number, rest)?;
     }
     Err(anyhow!("the table has too many cases"))
 }
