@@ -1,9 +1,8 @@
 // The lines of a listing.
 ghost use Rattle.std.specs.Prelude.{◌≡◌};
-ghost use Rattle.text.specs.Texts.{text_of};
+ghost use Rattle.faults.specs.Faults.{told};
 ghost use Rattle.station.specs.Faults.{station_fault};
 ghost use Rattle.station.specs.States.{account_of};
-ghost use Rattle.listing.specs.Faults.{written};
 ghost use Rattle.listing.specs.Classes.{two_classes_of};
 ghost use Rattle.listing.specs.Listing.{listing_lines, picture_listing, fault_line_of};
 
@@ -46,7 +45,7 @@ fn two_classes<R: DistanceRule>(station: &Station<R>) -> TwoClasses
 
 // What is listed of a station after an Otsu cut with this sum.
 fn station_text<R: DistanceRule>(station: &Station<R>, sum: u64) -> Text
-    ensures { text_of result ≡ listing_lines (account_of station.now) sum }
+    ensures { result ≡ listing_lines (account_of station.now) sum }
 {
     let extent = station.histogram().extent();
     let mut text = Text::new();
@@ -63,7 +62,7 @@ fn station_text<R: DistanceRule>(station: &Station<R>, sum: u64) -> Text
 
 // Lays a picture on a new station with squares, cuts it, and lists it.
 pub(crate) fn picture_text<P: Picture>(picture: &P) -> Result<Text, StationFault>
-    ensures { written station_fault result ≡ picture_listing (P.Picture.shown picture.now) }
+    ensures { told station_fault result ≡ picture_listing (P.Picture.shown picture.now) }
 {
     let mut station = Station::new(Squares);
     station.lay(picture)?;
@@ -73,7 +72,7 @@ pub(crate) fn picture_text<P: Picture>(picture: &P) -> Result<Text, StationFault
 
 // The line of a fault.
 pub(crate) fn fault_text(fault: Fault) -> Text
-    ensures { text_of result ≡ fault_line_of fault }
+    ensures { result ≡ fault_line_of fault }
 {
     let mut text = Text::new();
     text.push_line(

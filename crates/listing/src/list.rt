@@ -1,8 +1,7 @@
 // The listing call, the fault line call, and what the program prints.
 ghost use Rattle.std.specs.Prelude.{◌≡◌, Ok};
 ghost use Rattle.faults.specs.Faults.{told, and_then};
-ghost use Rattle.text.specs.Texts.{text_of};
-ghost use Rattle.listing.specs.Faults.{list_fault, written};
+ghost use Rattle.listing.specs.Faults.{list_fault};
 ghost use Rattle.listing.specs.Listing.{file_listing, fault_line_of, report_of, fitted, buffer_after};
 
 use crate::fault::ListFault;
@@ -14,7 +13,7 @@ use text::short::Text;
 
 // The listing of a file.
 fn file_text(file: &[u8]) -> Result<Text, ListFault>
-    ensures { written list_fault result ≡ file_listing file.now }
+    ensures { told list_fault result ≡ file_listing file.now }
 {
     let header = read(file)?;
     let picture = BytePicture::new(&file[header.first..header.end], header.columns);
@@ -23,8 +22,8 @@ fn file_text(file: &[u8]) -> Result<Text, ListFault>
 
 // Writes a text to a buffer's front.
 fn fit(text: &Text, out: &mut [u8]) -> Result<usize, ListFault>
-    ensures answer { told list_fault result ≡ fitted out.old (text_of text.now) }
-    ensures buffer { out.new ≡ buffer_after out.old (Ok (text_of text.now)) }
+    ensures answer { told list_fault result ≡ fitted out.old text.now }
+    ensures buffer { out.new ≡ buffer_after out.old (Ok text.now) }
 {
     Ok(text.copy_to(out)?)
 }
@@ -48,7 +47,7 @@ pub fn fault_line(fault: Fault, out: &mut [u8]) -> Result<usize, ListFault>
 
 // What the program prints of a file: its listing, or the line of the fault that stopped it.
 pub fn report(file: &[u8]) -> Text
-    ensures { text_of result ≡ report_of (file_listing file.now) }
+    ensures { result ≡ report_of (file_listing file.now) }
 {
     file_text(file).unwrap_or_else(|refusal| fault_text(refusal.into()))
 }

@@ -1,5 +1,5 @@
 use Rattle.std.proofs.Common.{◌≤◌, [], ◌∷◌, ◌++◌, length, codes, ap, ◌∙◌, arith}
-use Rattle.text.specs.Texts.{text_of, line}
+use Rattle.text.specs.Texts.{line}
 use Rattle.text.proofs.Lines.{length-line, length-decimal-u64}
 use Rattle.histogram.specs.Counts.{lowest, highest}
 use Rattle.histogram.specs.Totals.{pixels}
@@ -24,7 +24,7 @@ returns g c =
     let lb : length b ≤ 48 = omega (arith, length-line (codes "range") (lo ∷ (up ∷ [])), length-decimal-u64 lo (omega (arith, c.extent-extent.type_inv)), length-decimal-u64 up (omega (arith, c.extent-extent.type_inv))) in
     let ld : length d ≤ 89 = omega (arith, length-line (codes "otsu") (cut_numbers k s), length-decimal-u64 k.threshold (omega (arith, c.two_classes-threshold.type_inv)), length-decimal-u64 k.low (omega (arith, c.two_classes-threshold.type_inv)), length-decimal-u64 k.high (omega (arith, c.two_classes-threshold.type_inv)), length-decimal-u64 s (omega (arith, c.ranges.sum))) in
     let x = c.extent-extent.ensures ∙ ap extent_of c.histogram.ensures in
-    three-lines a b d (text_of c.new-text.result) (text_of c.push_line.new.self) (text_of c.push_line-2.new.self) (text_of c.push_line-3.new.self)
+    three-lines a b d c.new-text.result c.push_line.new.self c.push_line-2.new.self c.push_line-3.new.self
     c.new-text.ensures c.push_line.ensures c.push_line-2.ensures c.push_line-3.ensures (omega arith)
     ∙ ap (λ m. line (codes "pixels") (m ∷ []) ++ (b ++ d)) c.total.ensures
     ∙ ap (λ e. line (codes "pixels") (pixels h ∷ []) ++ (line (codes "range") (e.lowest ∷ (e.highest ∷ [])) ++ d)) x
