@@ -1,10 +1,17 @@
 -- A sample's level and its clipping, from the operations of floats.
-use Rattle.std.proofs.Common.{◌≡◌, ℕ, ◌*◌, ◌/◌, ◌<◌, ◌≤◌, Bool, true, false, not, ◌&&◌, ◌||◌, eqb, ltb, leb, List, map, length, get_or, pos, sym, refl, ap, ◌∙◌, inl, inr, ⊎_elim, div-lt_iff_lt-mul, mul-pos, le-div_iff_mul-le, zero-mul, mul-one, arith}
+use Rattle.std.proofs.Common.{◌≡◌, ℕ, ◌+◌, ◌*◌, ◌/◌, ◌<◌, ◌≤◌, Bool, true, false, not, ◌&&◌, ◌||◌, eqb, ltb, leb, List, map, length, get_or, Option, None, cond, pos, sym, refl, ap, ◌∙◌, inl, inr, ⊎_elim, div-lt_iff_lt-mul, mul-pos, le-div_iff_mul-le, zero-mul, mul-one, arith}
 use native.Mathlib.Nat.{zero-div}
 use lib.Ieee.{Float, nan, inf, fin, up, down, le, lt, eq, to_unsigned, of_bits, binary32}
 use lib.Ieee.Fits.{up_pos, down_pos}
 use Rattle.std.proofs.lemmas.List.{get_or-map, get_or_past, length-map}
 use Rattle.std.proofs.lemmas.Bool.{cases_lt, cases_order, eq-eqb, ne_eqb, lt-ltb, le-ltb, le-leb, lt-leb, and_from, and_left, and_right, or_from, or_left, or_right}
+use Rattle.std.specs.Option.{option_map}
+use Rattle.std.specs.List.{slice_get}
+use Rattle.std.proofs.lemmas.Option.{slice_get-map}
+use Rattle.pictures.specs.declared.grid.Grid.{Grid}
+use Rattle.pictures.specs.Raster.{level_at}
+use Rattle.pictures.specs.Grids.{sample_in, grid_showing}
+use Rattle.pictures.proofs.Grids.{grid-at}
 use Rattle.doses.specs.Dose.{too_low, too_high, clips, dose_level_of}
 
 -- How floats of one sign are compared.
@@ -105,3 +112,13 @@ dose-at ss i =
 
 pub doses-low : (ss : List Float) (i : ℕ) → get_or (map dose_level_of ss) i 0 ≤ 255
 doses-low ss i = omega (arith, dose-at ss i, dose-low (get_or ss i nan))
+
+-- The level of the sample at a place of a grid.
+pub dose-place : (g : Grid Float) (x y : ℕ) (o : Option Float) → o ≡ sample_in g x y → option_map dose_level_of o ≡ level_at (grid_showing g (map dose_level_of g.samples.now)) x y
+dose-place g x y o e =
+    ap (option_map dose_level_of) e ∙ go (ltb x g.columns && ltb y g.rows)
+    ∙ grid-at g (map dose_level_of g.samples.now) x y (length-map g.samples.now dose_level_of) (doses-low g.samples.now)
+  where
+    go : (b : Bool) → option_map dose_level_of (cond b (slice_get g.samples.now (y * g.columns + x)) None) ≡ cond b (slice_get (map dose_level_of g.samples.now) (y * g.columns + x)) None
+    go true = sym (slice_get-map dose_level_of g.samples.now (y * g.columns + x))
+    go false = refl

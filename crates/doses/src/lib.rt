@@ -1,21 +1,21 @@
 // Dose pictures: float samples, their levels, and the first that is clipped.
 #![tactic(auto)]
 
-ghost use Rattle.std.specs.Prelude.{◌≡◌, map, length, slice_index_or};
-ghost use Rattle.std.specs.Float.{nan};
-ghost use Rattle.pictures.specs.Grids.{grid_of, grid_showing, grid_showing-sound, columns_in, rows_in};
+ghost use Rattle.std.specs.Prelude.{◌≡◌, ◌++◌, Some, codes, decimal, map, length};
+ghost use Rattle.pictures.specs.Bytes.{columns_given, whole_rows};
+ghost use Rattle.pictures.specs.Grids.{grid_showing, grid_showing-sound};
 ghost use Rattle.doses.specs.Dose.{dose_level_of, clips, dose_raster};
 ghost use Rattle.doses.specs.Clips.{first_clip, FirstClip};
 
 use pictures::Picture;
 use pictures::grid::Grid;
+use std::fmt;
 use std::num::saturating_f32_to_u8;
 
 // Float samples in the caller's memory, as whole rows.
 #[derive(Clone, Copy)]
 pub struct DosePicture<'a> {
-    grid: Grid,
-    samples: &'a [f32],
+    grid: Grid<'a, f32>,
 }
 
 // Column x of row y.
@@ -23,6 +23,15 @@ pub struct DosePicture<'a> {
 pub struct Place {
     pub x: usize,
     pub y: usize,
+}
+
+// Column and row, with a space between.
+impl fmt::Display for Place {
+    ghost output = { λ p. Some (decimal p.x ++ codes " " ++ decimal p.y) };
+
+    fn fmt<W: fmt::Write>(&self, f: &mut fmt::Formatter<W>) -> fmt::Result {
+        write!(f, "{} {}", self.x, self.y)
+    }
 }
 
 // The sample without its fraction, clipped to 0 or 255 where it is no level.
@@ -39,52 +48,30 @@ fn is_clipped(sample: f32) -> bool
     if 0.0 <= sample { 256.0 <= sample } else { true }
 }
 
-// The level of the sample at an index; past the end, that of what is not a number.
-fn level_at(samples: &[f32], at: usize) -> u8
-    ensures { result ≡ dose_level_of (slice_index_or samples.now at nan) }
-{
-    if at < samples.len() {
-        dose_level(samples[at])
-    } else {
-        0
-    }
-}
-
-// Whether the sample at an index is clipped; past the end, as what is not a number.
-fn clipped_at(samples: &[f32], at: usize) -> bool
-    ensures { result ≡ clips (slice_index_or samples.now at nan) }
-{
-    if at < samples.len() {
-        is_clipped(samples[at])
-    } else {
-        true
-    }
-}
-
 impl<'a> DosePicture<'a> {
     // Never refuses: a column count of 0 or above 4,096 makes a picture of no column and no row.
     pub fn new(samples: &'a [f32], columns: usize) -> Self
-        ensures shown { grid_showing result.grid (map dose_level_of result.samples.now) ≡ dose_raster columns samples.now }
-        ensures grid { result.grid ≡ grid_of (length samples.now) columns }
-        ensures samples { result.samples.now ≡ samples.now }
+        ensures shown { ⟦<DosePicture<'a> as Picture>⟧.shown result ≡ dose_raster columns samples.now }
+        ensures columns { result.grid.columns ≡ columns_given columns }
+        ensures rows { result.grid.rows ≡ whole_rows (columns_given columns) (length samples.now) }
+        ensures samples { result.grid.samples.now ≡ samples.now }
     {
         DosePicture {
-            grid: Grid::new(samples.len(), columns),
-            samples,
+            grid: Grid::new(samples, columns),
         }
     }
 
     // The place of the first clipped sample, row by row; none where no sample is clipped.
     pub fn first_clip(&self) -> Option<Place>
-        ensures value { result ≡ first_clip (columns_in self.now.grid) (rows_in self.now.grid) self.now.samples.now }
-        ensures words { FirstClip (columns_in self.now.grid) (rows_in self.now.grid) self.now.samples.now result }
+        ensures value { result ≡ first_clip self.now.grid.columns self.now.grid.rows self.now.grid.samples.now }
+        ensures words { FirstClip self.now.grid.columns self.now.grid.rows self.now.grid.samples.now result }
     {
-        let columns = self.columns();
-        let rows = self.rows();
+        let columns = self.grid.columns();
+        let rows = self.grid.rows();
         let mut found = None;
         'search: for y in 0..rows {
             for x in 0..columns {
-                if clipped_at(self.samples, y * columns + x) {
+                if self.grid.sample(x, y).is_some_and(is_clipped) {
                     found = Some(Place { x, y });
                     break 'search;
                 }
@@ -95,9 +82,9 @@ impl<'a> DosePicture<'a> {
 }
 
 impl<'a> Picture for DosePicture<'a> {
-    ghost shown = { λ p. grid_showing p.grid (map dose_level_of p.samples.now) };
+    ghost shown = { λ p. grid_showing p.grid (map dose_level_of p.grid.samples.now) };
 
-    ghost sound = { λ p. grid_showing-sound p.grid (map dose_level_of p.samples.now) };
+    ghost sound = { λ p. grid_showing-sound p.grid (map dose_level_of p.grid.samples.now) };
 
     fn columns(&self) -> usize {
         self.grid.columns()
@@ -108,8 +95,7 @@ impl<'a> Picture for DosePicture<'a> {
     }
 
     fn level(&self, x: usize, y: usize) -> Option<u8> {
-        let at = self.grid.index(x, y)?;
-        Some(level_at(self.samples, at))
+        self.grid.sample(x, y).map(dose_level)
     }
 }
 

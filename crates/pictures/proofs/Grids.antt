@@ -1,52 +1,49 @@
--- What a grid over some bytes means.
-use Rattle.std.proofs.Common.{◌≡◌, ℕ, ◌+◌, ◌*◌, ◌/◌, ◌≤◌, min, true, false, ◌&&◌, ltb, leb, List, length, get_or, Some, sym, ap, ◌∙◌, ⊎_elim, mul_comm, mul-zero, arith}
-use Rattle.std.proofs.lemmas.Bool.{cases_Bool, leb-true, and_parts, ltb-true, cond-true, cond-false}
-use Rattle.std.proofs.lemmas.Nat.{div-add-mod', mul-le}
+-- What a grid over some samples means.
+use Rattle.std.proofs.Common.{◌≡◌, ℕ, ◌+◌, ◌*◌, ◌≤◌, true, false, ◌&&◌, ltb, List, length, get_or, take, Some, None, Bool, cond, ◌<◌, sym, refl, ap, ◌∙◌, arith}
+use Rattle.std.specs.List.{slice_get}
+use Rattle.std.proofs.lemmas.Bool.{and_parts, ltb-true, lt-ltb}
+use Rattle.std.proofs.lemmas.List.{get_or-take}
+use Rattle.std.proofs.lemmas.Nat.{mul-add-lt}
+use Rattle.std.proofs.lemmas.Option.{slice_get-get_or}
 use Rattle.pictures.specs.declared.grid.Grid.{Grid}
-use Rattle.pictures.specs.Raster.{level_at}
-use Rattle.pictures.specs.Grids.{grid_of, columns_in, rows_in, index_in, grid_showing}
+use Rattle.pictures.specs.Raster.{raster, level_at}
+use Rattle.pictures.specs.Grids.{sample_in, grid_showing}
 use Rattle.pictures.specs.Bytes.{columns_given, whole_rows, byte_raster}
-use Rattle.pictures.proofs.Places.{drawn-inside, showing-rows}
-use Rattle.pictures.proofs.Chosen.{some-where}
+use Rattle.pictures.proofs.Places.{showing-rows}
 
-given-few : (c : ℕ) → columns_given c ≤ 4096
-given-few c =
-    ⊎_elim
-    (λ (t : leb c 4096 ≡ true). omega (arith, cond-true (leb c 4096) c 0 t, leb-true c 4096 t))
-    (λ (t : leb c 4096 ≡ false). omega (arith, cond-false (leb c 4096) c 0 t))
-    (cases_Bool (leb c 4096))
+-- Whatever a grid holds, its whole rows are there.
+pub grid-rows : {S : Type 0} (g : Grid S) (ls : List ℕ) → length ls ≡ length g.samples.now → ((i : ℕ) → get_or ls i 0 ≤ 255)
+    → grid_showing g ls ≡ raster g.columns g.rows (take (g.columns * g.rows) ls)
+grid-rows g ls l h = showing-rows g.columns g.rows ls g.narrow g.low (omega (arith, g.held)) h
 
--- The whole rows are at most 4,096, and their samples are there.
-pub record Whole (k n : ℕ) : Type 0 where
-  pub few : whole_rows k n ≤ 4096
-  pub there : k * whole_rows k n ≤ n
+-- The grid of a column count, over as many samples as there are levels, means the picture of the levels.
+pub grid-given : {S : Type 0} (c : ℕ) (g : Grid S) (ls : List ℕ) → length ls ≡ length g.samples.now → g.columns ≡ columns_given c → g.rows ≡ whole_rows (columns_given c) (length ls)
+    → ((i : ℕ) → get_or ls i 0 ≤ 255) → grid_showing g ls ≡ byte_raster c ls
+grid-given c g ls l e f h =
+    grid-rows g ls l h
+    ∙ ap (λ k. raster k g.rows (take (k * g.rows) ls)) e
+    ∙ ap (λ n. raster (columns_given c) n (take (columns_given c * n) ls)) f
 
-pub whole-rows : (k n : ℕ) → Whole k n
-whole-rows k n =
-    ⊎_elim
-    (λ (t : ltb 0 k ≡ true).
-    let e = cond-true (ltb 0 k) (min 4096 (n / k)) 0 t in
-    let m = mul-le k (whole_rows k n) k (n / k) (omega arith) (omega (arith, e)) in
-    record { few = omega (arith, e); there = omega (arith, m, div-add-mod' n k, mul_comm k (n / k)) })
-    (λ (t : ltb 0 k ≡ false).
-    let e = cond-false (ltb 0 k) (min 4096 (n / k)) 0 t in
-    record { few = omega (arith, e); there = omega (arith, ap (λ r. k * r) e, mul-zero k) })
-    (cases_Bool (ltb 0 k))
+-- The level at a place of a grid.
+pub grid-at : {S : Type 0} (g : Grid S) (ls : List ℕ) (x y : ℕ) → length ls ≡ length g.samples.now → ((i : ℕ) → get_or ls i 0 ≤ 255)
+    → cond (ltb x g.columns && ltb y g.rows) (slice_get ls (y * g.columns + x)) None ≡ level_at (grid_showing g ls) x y
+grid-at g ls x y l h = go (ltb x g.columns && ltb y g.rows) refl ∙ ap (λ p. level_at p x y) (sym (grid-rows g ls l h))
+  where
+    at : ℕ
+    at = y * g.columns + x
 
--- The grid of as many samples as there are bytes means the picture of the bytes.
-pub grid-given : (c : ℕ) (g : Grid) (bs : List ℕ) → g ≡ grid_of (length bs) c → ((i : ℕ) → get_or bs i 0 ≤ 255) → grid_showing g bs ≡ byte_raster c bs
-grid-given c g bs e h =
-    let k = columns_given c in
-    let w = whole-rows k (length bs) in
-    ap (λ q. grid_showing q bs) e ∙ showing-rows k (whole_rows k (length bs)) bs (given-few c) w.few w.there h
+    n : ℕ
+    n = g.columns * g.rows
 
--- A sample that was asked for inside stands at its place.
-pub grid-at : (g : Grid) (bs : List ℕ) (x y at v : ℕ) → Some at ≡ index_in g x y → v ≡ get_or bs at 0 → v ≤ 255 → Some v ≡ level_at (grid_showing g bs) x y
-grid-at g bs x y at v e f l =
-    let c = columns_in g in
-    let r = rows_in g in
-    let k = some-where (ltb x c && ltb y r) at (y * c + x) e in
-    let q = and_parts (ltb x c) (ltb y r) k.0 in
-    let z : v ≡ min 255 v = omega arith in
-    ap (λ (w : ℕ). Some w) (z ∙ ap (min 255) (f ∙ ap (λ i. get_or bs i 0) k.1))
-    ∙ sym (drawn-inside c r (λ i j. min 255 (get_or bs (j * c + i) 0)) x y (ltb-true x c q.0) (ltb-true y r q.1))
+    go : (b : Bool) → b ≡ (ltb x g.columns && ltb y g.rows) → cond b (slice_get ls at) None ≡ cond b (Some (get_or (take n ls) at 0)) None
+    go false e = refl
+    go true e =
+        let q = and_parts (ltb x g.columns) (ltb y g.rows) (sym e) in
+        let m : at < n = mul-add-lt y g.columns x g.rows (ltb-true y g.rows q.1) (ltb-true x g.columns q.0) in
+        slice_get-get_or ls at 0 (omega (arith, g.held)) ∙ ap (λ (v : ℕ). Some v) (sym (get_or-take n ls at 0 m))
+
+-- The sample at a place inside.
+pub grid-inside : {S : Type 0} (g : Grid S) (d : S) (n x y : ℕ) → n ≡ g.columns → x < n → y < g.rows → sample_in g x y ≡ Some (get_or g.samples.now (y * n + x) d)
+grid-inside g d n x y e h k =
+    let m : y * g.columns + x < g.columns * g.rows = mul-add-lt y g.columns x g.rows k (omega arith) in
+    rw (lt-ltb x g.columns (omega arith), lt-ltb y g.rows k) (slice_get-get_or g.samples.now (y * g.columns + x) d (omega (arith, g.held)) ∙ ap (λ c. Some (get_or g.samples.now (y * c + x) d)) (sym e))

@@ -1,5 +1,5 @@
 -- What a question to a picture that lies on another answers.
-use Rattle.std.proofs.Common.{◌≡◌, ℕ, ◌+◌, ◌-◌, ◌*◌, ◌/◌, ◌<◌, min, Some, Option, unwrap_or, sym, ap, ◌∙◌, arith}
+use Rattle.std.proofs.Common.{◌≡◌, ℕ, ◌+◌, ◌-◌, ◌*◌, ◌/◌, ◌<◌, min, Some, sym, ◌∙◌, arith}
 use Rattle.pictures.specs.Raster.{Raster, level_at, place}
 use Rattle.pictures.specs.Layers.{negated, windowed, block_sum, halved}
 use Rattle.pictures.proofs.Places.{inside, drawn-inside, answered}
@@ -15,12 +15,9 @@ windowed-inside left top c r p x y h k =
     inside p (left + x) (top + y) (omega arith) (omega arith)
     ∙ sym (drawn-inside (min c (p.columns - left)) (min r (p.rows - top)) (λ i j. place p (left + i) (top + j)) x y h k)
 
--- Inside, a default is not taken.
-pub or-zero : (p : Raster) (x y a : ℕ) → x < p.columns → y < p.rows → (o : Option ℕ) → o ≡ level_at p x y → a ≡ unwrap_or o 0 → a ≡ place p x y
-or-zero p x y a h k o e f = f ∙ ap (λ q. unwrap_or q 0) (e ∙ inside p x y h k)
-
-pub halved-inside : (p : Raster) (x y a b c d : ℕ) → x < p.columns / 2 → y < p.rows / 2
-    → a ≡ place p (2 * x) (2 * y) → b ≡ place p (2 * x + 1) (2 * y) → c ≡ place p (2 * x) (2 * y + 1) → d ≡ place p (2 * x + 1) (2 * y + 1)
+pub halved-some : (p : Raster) (x y a b c d : ℕ) → x < p.columns / 2 → y < p.rows / 2
+    → Some a ≡ level_at p (2 * x) (2 * y) → Some b ≡ level_at p (2 * x + 1) (2 * y) → Some c ≡ level_at p (2 * x) (2 * y + 1) → Some d ≡ level_at p (2 * x + 1) (2 * y + 1)
     → Some ((a + b + c + d) / 4) ≡ level_at (halved p) x y
-halved-inside p x y a b c d h k ea eb ec ed =
-    rw (ea, eb, ec, ed) (sym (drawn-inside (p.columns / 2) (p.rows / 2) (λ i j. block_sum p i j / 4) x y h k))
+halved-some p x y a b c d h k ea eb ec ed =
+    rw ((answered p _ _ a ea).is, (answered p _ _ b eb).is, (answered p _ _ c ec).is, (answered p _ _ d ed).is)
+    (sym (drawn-inside (p.columns / 2) (p.rows / 2) (λ i j. block_sum p i j / 4) x y h k))

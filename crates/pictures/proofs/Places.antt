@@ -3,7 +3,7 @@ use Rattle.std.proofs.Common.{◌≡◌, ℕ, ◌+◌, ◌*◌, ◌/◌, ◌%◌
 use Rattle.std.proofs.lemmas.Bool.{cases_Bool, lt-ltb, le-leb, and_parts, ltb-true, cond-true}
 use Rattle.std.proofs.lemmas.List.FromFn.{fill_by_all}
 use Rattle.std.proofs.lemmas.List.{length-take-le, get_or-take, take_all}
-use Rattle.std.proofs.lemmas.Nat.{div-add-mod', div-mul-add, mul-le}
+use Rattle.std.proofs.lemmas.Nat.{div-add-mod', div-mul-add}
 use Rattle.pictures.specs.Raster.{Raster, raster, level_at, place}
 use Rattle.pictures.specs.Drawn.{drawn, drawn-place}
 use Rattle.pictures.specs.Bytes.{columns_given, whole_rows, rows_of, byte_raster, showing}
@@ -36,7 +36,7 @@ answered p x y v h =
 pub never-none : (p : Raster) (x y : ℕ) → x < p.columns → y < p.rows → None ≡ level_at p x y → ⊥
 never-none p x y h k e = let q : None ≡ Some (place p x y) = e ∙ inside p x y h k in let z : ◌≡◌ {A = ℕ} 0 1 = cc in omega arith
 
--- The fields of a byte picture that fit its bytes mean the first bytes, row by row.
+-- Columns and rows that fit some levels mean the first levels, row by row.
 pub showing-rows : (c r : ℕ) (bs : List ℕ) → c ≤ 4096 → r ≤ 4096 → c * r ≤ length bs → ((i : ℕ) → get_or bs i 0 ≤ 255) → showing c r bs ≡ raster c r (take (c * r) bs)
 showing-rows c r bs n l w h =
     let e : min c 4096 ≡ c = omega arith in
@@ -44,21 +44,6 @@ showing-rows c r bs n l w h =
     ap (λ k. drawn k (min r 4096) (λ x y. min 255 (get_or bs (y * k + x) 0))) e ∙ ap (λ k. drawn c k (λ x y. min 255 (get_or bs (y * c + x) 0))) f
     ∙ ap (raster c r) (sym (fill_by_all (λ i. min 255 (get_or bs (i / c * c + i % c) 0)) (take (c * r) bs) (c * r) 0 (length-take-le (c * r) bs w)
     (λ k q. get_or-take (c * r) bs k 0 q ∙ (let m = h k in let z : get_or bs k 0 ≡ min 255 (get_or bs k 0) = omega arith in z) ∙ ap (λ i. min 255 (get_or bs i 0)) (sym (div-add-mod' k c)))))
-
-pub showing-bytes : (c r : ℕ) (bs : List ℕ) → (c ≡ 0 → ⊥) → c ≤ 4096 → r ≡ min (length bs / c) 4096 → ((i : ℕ) → get_or bs i 0 ≤ 255)
-    → showing c r bs ≡ byte_raster c bs
-showing-bytes c r bs z n e h =
-    let m = mul-le c r c (length bs / c) (omega arith) (omega arith) in
-    let q : columns_given c ≡ c = cond-true (leb c 4096) c 0 (le-leb c 4096 n) in
-    let s : whole_rows c (length bs) ≡ r = cond-true (ltb 0 c) (min 4096 (length bs / c)) 0 (lt-ltb 0 c (omega arith)) ∙ omega arith in
-    showing-rows c r bs n (omega arith) (omega (arith, m, div-add-mod' (length bs) c)) h
-    ∙ ap (λ k. raster c k (take (c * k) bs)) (sym s) ∙ ap (λ k. rows_of k bs) (sym q)
-
-pub showing-at : (c r : ℕ) (bs : List ℕ) (n x y v : ℕ) → n ≡ min c 4096 → x < n → y < min r 4096 → v ≡ get_or bs (y * n + x) 0 → v ≤ 255 → Some v ≡ level_at (showing c r bs) x y
-showing-at c r bs n x y v e h k f l =
-    let z : v ≡ min 255 v = omega arith in
-    ap (λ (w : ℕ). Some w) (z ∙ ap (min 255) (f ∙ ap (λ m. get_or bs (y * m + x) 0) e))
-    ∙ sym (drawn-inside (min c 4096) (min r 4096) (λ i j. min 255 (get_or bs (j * min c 4096 + i) 0)) x y (omega arith) k)
 
 -- Bytes that are whole rows and no more mean all of them.
 pub byte-whole : (c r : ℕ) (bs : List ℕ) → 1 ≤ c → c ≤ 4096 → r ≤ 4096 → length bs ≡ c * r → byte_raster c bs ≡ raster c r bs

@@ -20,7 +20,7 @@ rows_of k bs = raster k (whole_rows k (length bs)) (take (k * whole_rows k (leng
 abbrev pub byte_raster : ℕ → List ℕ → Raster
 byte_raster c bs = rows_of (columns_given c) bs
 
--- What the fields of a byte picture mean, whatever they hold; what `new` answers means `byte_raster`.
+-- What c columns and r rows over some levels mean, whatever the numbers. What `new` answers means `byte_raster`.
 abbrev pub showing : ℕ → ℕ → List ℕ → Raster
 showing c r bs = drawn (min c 4096) (min r 4096) (λ x y. min 255 (slice_index bs (y * min c 4096 + x)))
 

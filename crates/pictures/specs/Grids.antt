@@ -1,27 +1,21 @@
--- Samples in the caller's memory as whole rows: how many columns and rows they make, and where the sample of a place stands.
-use Rattle.std.specs.Prelude.{ℕ, ◌+◌, ◌*◌, min, cond, ◌&&◌, List, Some, None, Option, nat_lt}
+-- Samples in the caller's memory as whole rows: where the sample of a place stands, and what the rows mean.
+use Rattle.std.specs.Prelude.{ℕ, ◌+◌, ◌*◌, cond, ◌&&◌, List, Some, None, Option, nat_lt}
+use Rattle.std.specs.List.{slice_get}
 use Rattle.pictures.specs.declared.grid.Grid.{Grid}
 use Rattle.pictures.specs.Raster.{Raster, Sound}
-use Rattle.pictures.specs.Bytes.{columns_given, whole_rows, showing, showing-sound}
-
--- The grid of n samples for a column count.
-abbrev pub grid_of : ℕ → ℕ → Grid
-grid_of n c = record { columns = columns_given c; rows = whole_rows (columns_given c) n }
-
--- A grid has at most 4,096 columns and rows, whatever it holds.
-abbrev pub columns_in : Grid → ℕ
-columns_in g = min g.columns 4096
-
-abbrev pub rows_in : Grid → ℕ
-rows_in g = min g.rows 4096
+use Rattle.pictures.specs.Bytes.{showing, showing-sound}
 
 -- The number of a place, counted row by row; none outside.
-abbrev pub index_in : Grid → ℕ → ℕ → Option ℕ
-index_in g x y = cond (nat_lt x (columns_in g) && nat_lt y (rows_in g)) (Some (y * columns_in g + x)) None
+abbrev pub index_in : {S : Type 0} → Grid S → ℕ → ℕ → Option ℕ
+index_in g x y = cond (nat_lt x g.columns && nat_lt y g.rows) (Some (y * g.columns + x)) None
 
--- What a grid over some bytes means, whatever it holds.
-abbrev pub grid_showing : Grid → List ℕ → Raster
-grid_showing g bs = showing g.columns g.rows bs
+-- The sample at a place; none outside.
+abbrev pub sample_in : {S : Type 0} → Grid S → ℕ → ℕ → Option S
+sample_in g x y = cond (nat_lt x g.columns && nat_lt y g.rows) (slice_get g.samples.now (y * g.columns + x)) None
 
-pub grid_showing-sound : (g : Grid) (bs : List ℕ) → Sound (grid_showing g bs)
-grid_showing-sound g bs = showing-sound g.columns g.rows bs
+-- What a grid means whose samples have some levels.
+abbrev pub grid_showing : {S : Type 0} → Grid S → List ℕ → Raster
+grid_showing g ls = showing g.columns g.rows ls
+
+pub grid_showing-sound : {S : Type 0} (g : Grid S) (ls : List ℕ) → Sound (grid_showing g ls)
+grid_showing-sound g ls = showing-sound g.columns g.rows ls

@@ -1,68 +1,44 @@
 // The byte picture.
-ghost use Rattle.std.specs.Prelude.{◌≡◌, slice_index};
-ghost use Rattle.pictures.specs.Bytes.{byte_raster, showing, showing-sound};
+ghost use Rattle.std.specs.Prelude.{◌≡◌, ℕ, ◌≤◌, slice_index};
+ghost use Rattle.pictures.specs.Bytes.{byte_raster};
+ghost use Rattle.pictures.specs.Grids.{grid_showing, grid_showing-sound};
 
 use crate::Picture;
-
-// The most columns, and the most rows.
-pub(crate) const MOST: usize = 4096;
+use crate::grid::Grid;
 
 // Bytes in the caller's memory, as whole rows.
 #[derive(Clone, Copy)]
 pub struct BytePicture<'a> {
-    columns: usize,
-    rows: usize,
-    bytes: &'a [u8],
-}
-
-// The byte at an index; 0 past the end.
-fn byte_at(bytes: &[u8], at: usize) -> u8
-    ensures { result ≡ slice_index bytes.now at }
-{
-    if at < bytes.len() { bytes[at] } else { 0 }
+    grid: Grid<'a, u8>,
+    ghost levels: { (i : ℕ) → slice_index grid.samples.now i ≤ 255 },
 }
 
 impl<'a> BytePicture<'a> {
     // Never refuses: a column count of 0 or above 4,096 makes a picture of no column and no row.
     pub fn new(bytes: &'a [u8], columns: usize) -> Self
-        ensures { showing result.columns result.rows result.bytes.now ≡ byte_raster columns bytes.now }
+        ensures { ⟦<BytePicture<'a> as Picture>⟧.shown result ≡ byte_raster columns bytes.now }
     {
-        if columns == 0 || columns > MOST {
-            return BytePicture {
-                columns: 0,
-                rows: 0,
-                bytes,
-            };
-        }
-        let rows = (bytes.len() / columns).min(MOST);
         BytePicture {
-            columns,
-            rows,
-            bytes,
+            grid: Grid::new(bytes, columns),
         }
     }
 }
 
 impl<'a> Picture for BytePicture<'a> {
-    ghost shown = { λ p. showing p.columns p.rows p.bytes.now };
+    ghost shown = { λ p. grid_showing p.grid p.grid.samples.now };
 
-    ghost sound = { λ p. showing-sound p.columns p.rows p.bytes.now };
+    ghost sound = { λ p. grid_showing-sound p.grid p.grid.samples.now };
 
     fn columns(&self) -> usize {
-        self.columns.min(MOST)
+        self.grid.columns()
     }
 
     fn rows(&self) -> usize {
-        self.rows.min(MOST)
+        self.grid.rows()
     }
 
     fn level(&self, x: usize, y: usize) -> Option<u8> {
-        let columns = self.columns();
-        if x < columns && y < self.rows() {
-            Some(byte_at(self.bytes, y * columns + x))
-        } else {
-            None
-        }
+        self.grid.sample(x, y)
     }
 }
 

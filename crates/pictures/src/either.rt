@@ -3,7 +3,7 @@ ghost use Rattle.pictures.specs.Either.{either, either-sound};
 
 use crate::Picture;
 
-// A picture of either kind, so that one run of calls can mix them.
+// A picture of either kind, so that one run of calls can mix them. No Result: neither kind is an error.
 #[derive(Clone, Copy, Drop)]
 pub enum EitherPicture<A, B> {
     First(A),

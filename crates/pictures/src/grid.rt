@@ -1,54 +1,84 @@
 // Samples in the caller's memory, as whole rows.
-ghost use Rattle.std.specs.Prelude.{◌≡◌};
-ghost use Rattle.pictures.specs.Grids.{grid_of, columns_in, rows_in, index_in};
+ghost use Rattle.std.specs.Prelude.{◌≡◌, ◌*◌, ◌≤◌, ⊤, length};
 
-use crate::bytes::MOST;
+use std::alloc::AllocError;
 
-// How many columns and rows some samples make.
-#[derive(Clone, Copy)]
-pub struct Grid {
+// The most columns, and the most rows.
+const MOST: usize = 4096;
+
+// At most 4,096 columns and rows, whose samples are there.
+#[derive(Copy)]
+pub struct Grid<'a, S> {
     columns: usize,
     rows: usize,
+    samples: &'a [S],
+    pub ghost narrow: { columns ≤ 4096 },
+    pub ghost low: { rows ≤ 4096 },
+    pub ghost held: { columns * rows ≤ length samples.now },
 }
 
-impl Grid {
+impl<'a, S: Copy> Clone for Grid<'a, S> {
+    ghost is_clone = { λ s r. r ≡ s };
+
+    ghost is_infallible = { λ _. ⊤ };
+
+    fn clone(&self) -> Result<Self, AllocError> {
+        Ok(*self)
+    }
+}
+
+impl<'a, S: Copy> Grid<'a, S> {
+    ghost use Rattle.pictures.specs.Bytes.{columns_given, whole_rows};
+    ghost use Rattle.pictures.specs.Grids.{index_in, sample_in};
+
     // The whole rows of a column count; a count of 0 or above 4,096 makes no column and no row.
-    pub fn new(samples: usize, columns: usize) -> Grid
-        ensures { result ≡ grid_of samples columns }
+    pub fn new(samples: &'a [S], columns: usize) -> Self
+        ensures columns { result.columns ≡ columns_given columns }
+        ensures rows { result.rows ≡ whole_rows (columns_given columns) (length samples.now) }
+        ensures samples { result.samples.now ≡ samples.now }
     {
         if columns == 0 || columns > MOST {
             return Grid {
                 columns: 0,
                 rows: 0,
+                samples,
             };
         }
         Grid {
             columns,
-            rows: (samples / columns).min(MOST),
+            rows: (samples.len() / columns).min(MOST),
+            samples,
         }
     }
 
     pub fn columns(&self) -> usize
-        ensures { result ≡ columns_in self.now }
+        ensures { result ≡ self.now.columns }
     {
-        self.columns.min(MOST)
+        self.columns
     }
 
     pub fn rows(&self) -> usize
-        ensures { result ≡ rows_in self.now }
+        ensures { result ≡ self.now.rows }
     {
-        self.rows.min(MOST)
+        self.rows
     }
 
     // The number of a place, counted row by row; none outside.
     pub fn index(&self, x: usize, y: usize) -> Option<usize>
         ensures { result ≡ index_in self.now x y }
     {
-        let columns = self.columns();
-        if x < columns && y < self.rows() {
-            Some(y * columns + x)
+        if x < self.columns() && y < self.rows() {
+            Some(y * self.columns() + x)
         } else {
             None
         }
+    }
+
+    // The sample at column x of row y; none outside.
+    pub fn sample(&self, x: usize, y: usize) -> Option<S>
+        ensures { result ≡ sample_in self.now x y }
+    {
+        let at = self.index(x, y)?;
+        self.samples.get(at).copied()
     }
 }

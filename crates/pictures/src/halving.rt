@@ -32,11 +32,11 @@ impl<P: Picture> Picture for Halving<P> {
 
     fn level(&self, x: usize, y: usize) -> Option<u8> {
         if x < self.columns() && y < self.rows() {
-            // The whole block is inside, so no 0 is ever put in.
-            let a = self.below.level(2 * x, 2 * y).unwrap_or(0);
-            let b = self.below.level(2 * x + 1, 2 * y).unwrap_or(0);
-            let c = self.below.level(2 * x, 2 * y + 1).unwrap_or(0);
-            let d = self.below.level(2 * x + 1, 2 * y + 1).unwrap_or(0);
+            // The whole block is inside, so each level is there.
+            let a = self.below.level(2 * x, 2 * y)?;
+            let b = self.below.level(2 * x + 1, 2 * y)?;
+            let c = self.below.level(2 * x, 2 * y + 1)?;
+            let d = self.below.level(2 * x + 1, 2 * y + 1)?;
             Some(quarter(a, b, c, d))
         } else {
             None

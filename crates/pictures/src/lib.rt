@@ -23,9 +23,6 @@ pub trait Picture {
     // What the picture means; every answer is about this, so questions change nothing and always get the same answer.
     ghost shown: { Self → Raster };
 
-    // Each make shows that its meaning is a picture.
-    ghost sound: { (p : Self) → Sound (shown p) };
-
     fn columns(&self) -> usize
         ensures { result ≡ (shown self.now).columns };
 
@@ -35,6 +32,9 @@ pub trait Picture {
     // The level at column x of row y; none outside.
     fn level(&self, x: usize, y: usize) -> Option<u8>
         ensures { result ≡ level_at (shown self.now) x y };
+
+    // The law of pictures: what each make means is one.
+    ghost sound: { (p : Self) → Sound (shown p) };
 }
 
 #[cfg(test)]

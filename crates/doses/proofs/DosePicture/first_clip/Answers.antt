@@ -1,23 +1,25 @@
-use Rattle.std.proofs.Common.{Some, sym, subst, arith}
-use Rattle.pictures.specs.Grids.{columns_in, rows_in}
+use Rattle.std.proofs.Common.{◌≡◌, rules, ◌+◌, ◌*◌, get_or, true, Some, sym, ◌∙◌, subst, arith}
+use lib.Ieee.{nan}
+use Rattle.pictures.proofs.Grids.{grid-inside}
+use Rattle.doses.specs.Dose.{clips}
 use Rattle.doses.specs.Clips.{FirstClip}
 use Rattle.doses.proofs.Clips.{first-clip, clear-all, clip-found}
 use Rattle.doses.proofs.DosePicture.first_clip.Goals as goal
 
 pub returns-after-search : goal.returns-after-search
 returns-after-search c =
-    let s = c.args.self.now in
-    let n = columns_in s.grid in
-    let m = rows_in s.grid in
-    let o = clear-all n m c.columns-columns.result s.samples.now c.columns-columns.ensures c.search.y (omega arith) c.search.invariant.0 in
-    let w = subst (FirstClip n m s.samples.now) (sym c.search.invariant.1) o in
-    record { value = first-clip n m s.samples.now c.search.found-1 w; words = w }
+    let g = c.args.self.now.grid in
+    let ss = g.samples.now in
+    let o = clear-all g.columns g.rows c.columns-columns.result ss c.columns-columns.ensures c.search.y (omega arith) c.search.invariant.0 in
+    let w = subst (FirstClip g.columns g.rows ss) (sym c.search.invariant.1) o in
+    record { value = first-clip g.columns g.rows ss c.search.found-1 w; words = w }
 
-pub returns-then-clipped_at : goal.returns-then-clipped_at
-returns-then-clipped_at c =
-    let s = c.args.self.now in
-    let n = columns_in s.grid in
-    let m = rows_in s.grid in
-    let w = clip-found n m c.columns-columns.result s.samples.now c.columns-columns.ensures c.search.y c.loop-x.x c.loop-x-test.true (omega arith)
-    c.if-clipped_at.ensures c.loop-x.invariant.0 in
-    record { value = first-clip n m s.samples.now (Some (record { x = c.loop-x.x; y = c.search.y })) w; words = w }
+pub returns-then-is_some_and : goal.returns-then-is_some_and
+returns-then-is_some_and c =
+    let g = c.args.self.now.grid in
+    let ss = g.samples.now in
+    let at = c.search.y * c.columns-columns.result + c.loop-x.x in
+    let s : c.sample.result ≡ Some (get_or ss at nan) = c.sample.ensures ∙ grid-inside g nan c.columns-columns.result c.loop-x.x c.search.y c.columns-columns.ensures c.loop-x-test.true (omega arith) in
+    let t : true ≡ clips (get_or ss at nan) = search rules in
+    let w = clip-found g.columns g.rows c.columns-columns.result ss c.columns-columns.ensures c.search.y c.loop-x.x c.loop-x-test.true (omega arith) t c.loop-x.invariant.0 in
+    record { value = first-clip g.columns g.rows ss (Some (record { x = c.loop-x.x; y = c.search.y })) w; words = w }
