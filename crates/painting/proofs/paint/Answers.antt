@@ -9,5 +9,5 @@ returns g c =
     record {
       answer = search rules;
       after = search rules;
-      change = λ d _. change-total d (bands_of c.args.set.now) (g.P.Picture.shown p) (g.P.Picture.sound p) c.args.buffer.now _ (search rules);
+      change = λ d _. change-total d (bands_of c.args.set.now) (g.P.Picture.shown p) (g.met.P.Picture.sound p) c.args.buffer.now _ (search rules);
     }

@@ -11,7 +11,7 @@ loop-y-init g c = c.new-histogram.ensures ∙ counted_none c.columns-columns.res
 pub put-requires : goal.put-requires
 put-requires g c =
     let p = g.P.Picture.shown c.args.picture.now in
-    let s = g.P.Picture.sound c.args.picture.now in
+    let s = g.met.P.Picture.sound c.args.picture.now in
     let n = c.columns-columns.result in
     let a = seen p s n c.loop-x.x c.loop-y.y c.in-Some.level c.columns-columns.ensures c.in-Some.ensures in
     let e = ap (λ h. get_or h c.in-Some.level 0) c.loop-x.invariant in
@@ -21,7 +21,7 @@ pub loop-x-preserved : goal.loop-x-preserved
 loop-x-preserved g c =
     let p = g.P.Picture.shown c.args.picture.now in
     elim c.match-level.branch [
-      | in-Some w ↦ counted-more p (g.P.Picture.sound c.args.picture.now) c.columns-columns.result c.loop-x.x c.loop-y.y w.in-Some.level c.columns-columns.ensures w.in-Some.ensures
+      | in-Some w ↦ counted-more p (g.met.P.Picture.sound c.args.picture.now) c.columns-columns.result c.loop-x.x c.loop-y.y w.in-Some.level c.columns-columns.ensures w.in-Some.ensures
           c.loop-x.histogram.counts c.match-level.histogram.counts c.loop-x.invariant (ap (λ t. t.counts) w.histogram-is ∙ w.put.ensures)
       | in_default w ↦ absurd (never-none p c.loop-x.x c.loop-y.y (omega arith) (omega arith) w.in_default.ensures)
     ]
@@ -29,4 +29,4 @@ loop-x-preserved g c =
 pub returns : goal.returns
 returns g c =
     let p = g.P.Picture.shown c.args.picture.now in
-    c.loop-y.invariant ∙ ap histogram_of (counted-all p (g.P.Picture.sound c.args.picture.now) c.loop-y.y c.columns-columns.result c.columns-columns.ensures (omega arith) (omega arith))
+    c.loop-y.invariant ∙ ap histogram_of (counted-all p (g.met.P.Picture.sound c.args.picture.now) c.loop-y.y c.columns-columns.result c.columns-columns.ensures (omega arith) (omega arith))
