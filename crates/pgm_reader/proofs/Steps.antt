@@ -43,13 +43,7 @@ digits-white rule v d p b bs e = grind arith
 
 -- numbers past the largest are refused alike, so it does no harm that the code's saturate
 closed-large : (rule : NumberRule) (x y d q : ℕ) (rs : List ℕ) → rule.high < x → rule.high < y → closed rule x d q rs ≡ closed rule y d q rs
-closed-large rule x y d q rs h k =
-    ap (λ z. cond (closes rule rs) z (Err (fault 1 rule.malformed q)))
-    (ap (λ v. cond v (Ok (found x q rs)) (Err (fault 1 rule.out_of_range d))) (refused rule.low rule.high x h)
-    ∙ sym (ap (λ v. cond v (Ok (found y q rs)) (Err (fault 1 rule.out_of_range d))) (refused rule.low rule.high y k)))
-  where
-    refused : (l u z : ℕ) → u < z → (leb l z && leb z u) ≡ false
-    refused l u z h = grind arith
+closed-large rule x y d q rs h k = grind arith
 
 value_from-ge : (n : ℕ) (cs : List ℕ) → n ≤ value_from n cs
 value_from-ge n [] = omega arith
@@ -61,11 +55,7 @@ digits-large rule x y d p bs h k =
     closed-large rule (value_from x ds) (value_from y ds) d (p + run digit bs) (drop (run digit bs) bs) (omega (arith, value_from-ge x ds)) (omega (arith, value_from-ge y ds))
 
 digits-saturated : (rule : NumberRule) (s x d p : ℕ) (bs : List ℕ) → rule.high < s → digits_on rule x d p bs ≡ digits_on rule (min x s) d p bs
-digits-saturated rule s x d p bs h =
-    ⊎_elim
-    (λ (small : x < s). ap (λ v. digits_on rule v d p bs) (omega arith))
-    (λ (large : s ≤ x). digits-large rule x (min x s) d p bs (omega arith) (omega arith))
-    (order x s)
+digits-saturated rule s x d p bs h = grind (arith, digits-large rule x (min x s) d p bs)
 
 largest-le : (f : Field) → largest_of f ≤ 4096
 largest-le Columns = omega arith
@@ -75,18 +65,16 @@ largest-le (Maxval c r) = omega arith
 -- one byte, by the machine's stage: what its new stage s makes of the rest
 pub on-opened : (m : HeaderMachine) (s : Stage) (p b : ℕ) (bs : List ℕ) → m.stage ≡ Opened → kind_of b ≡ White → s ≡ Gap → left m p (b ∷ bs) ≡ on_stage m.field s (p + 1) bs
 on-opened m s p b bs e k is =
-    ap (λ s. on_stage m.field s p (b ∷ bs)) e ∙ ap (on_field m.field) (number-white _ p b bs (white-is b k)) ∙ ap (λ s. on_stage m.field s (p + 1) bs) (sym is)
+    grind (arith, number-white (rule_of m.field) p b bs (white-is b k))
 
 pub on-gap : (m : HeaderMachine) (s : Stage) (p b : ℕ) (bs : List ℕ) → m.stage ≡ Gap → kind_of b ≡ White → s ≡ Gap → left m p (b ∷ bs) ≡ on_stage m.field s (p + 1) bs
 on-gap m s p b bs e k is =
-    ap (λ s. on_stage m.field s p (b ∷ bs)) e ∙ ap (on_field m.field) (gap-white _ p b bs (white-is b k)) ∙ ap (λ s. on_stage m.field s (p + 1) bs) (sym is)
+    grind (arith, gap-white (rule_of m.field) p b bs (white-is b k))
 
 pub on-first : (m : HeaderMachine) (s : Stage) (p b d : ℕ) (bs : List ℕ) → m.stage ≡ Gap → kind_of b ≡ Digit d → s ≡ Digits p d → left m p (b ∷ bs) ≡ on_stage m.field s (p + 1) bs
 on-first m s p b d bs e k is =
     let h = digit-is b d k in
-    ap (λ s. on_stage m.field s p (b ∷ bs)) e
-    ∙ ap (on_field m.field) (gap-digit _ p b bs h.0 h.1 ∙ ap (λ v. digits_on (rule_of m.field) v p (p + 1) bs) (sym h.2))
-    ∙ ap (λ s. on_stage m.field s (p + 1) bs) (sym is)
+    grind (arith, gap-digit (rule_of m.field) p b bs h.0 h.1, h.2)
 
 pub on-digit : (m : HeaderMachine) (s : Stage) (start value p b d v : ℕ) (bs : List ℕ) → m.stage ≡ Digits start value → kind_of b ≡ Digit d → v ≡ min (min (value * 10) 18446744073709551615 + d) 18446744073709551615
     → s ≡ Digits start v → left m p (b ∷ bs) ≡ on_stage m.field s (p + 1) bs
