@@ -97,32 +97,19 @@ closes-gap rule [] rest h = grind arith
 closes-gap rule (w ∷ ws) rest h = h
 
 pub closed_is : (rule : NumberRule) (v d q : ℕ) (rs : List ℕ) → rule.low ≤ v → v ≤ rule.high → closes rule rs ≡ true → closed rule v d q rs ≡ Ok (found v q rs)
-closed_is rule v d q rs low high h =
-    ap (λ x. cond x (ranged rule v d q rs) (Err (fault 1 rule.malformed q))) h
-    ∙ ap (λ x. cond x (Ok (found v q rs)) (Err (fault 1 rule.out_of_range d))) (in-range rule.low rule.high low high)
-  where
-    in-range : (l u : ℕ) → l ≤ v → v ≤ u → (leb l v && leb v u) ≡ true
-    in-range l u low high = grind arith
+closed_is rule v d q rs low high h = grind arith
 
 digits_are : (rule : NumberRule) (d v : ℕ) (ds rest : List ℕ) → AllByRecursion (λ b. digit b ≡ true) ds → 0 < length ds → value_from 0 ds ≡ v → rule.low ≤ v → v ≤ rule.high → closes rule rest ≡ true
     → digits_at rule d (ds ++ rest) ≡ Ok (found v (d + length ds) rest)
 digits_are rule d v ds rest a some value low high h =
-    let xs = ds ++ rest in
-    let n : run digit xs ≡ length ds = run-front digit ds rest a (closes-no-digit rule rest h) in
-    ap (λ x. cond x (digits_on rule 0 d d xs) (Err (fault 1 rule.malformed d))) (starts-front digit ds rest (starts-all digit ds a some))
-    ∙ ap (λ k. closed rule (value_from 0 (take k xs)) d (d + k) (drop k xs)) n
-    ∙ ap (λ ys. closed rule (value_from 0 ys) d (d + length ds) (drop (length ds) xs)) (take_at ds rest (length ds) refl)
-    ∙ ap (λ ys. closed rule (value_from 0 ds) d (d + length ds) ys) (drop_at ds rest (length ds) refl)
-    ∙ ap (λ w. closed rule w d (d + length ds) rest) value
-    ∙ closed_is rule v d (d + length ds) rest low high h
+    let n = run-front digit ds rest a (closes-no-digit rule rest h) in
+    let some-digit = starts-front digit ds rest (starts-all digit ds a some) in
+    grind (arith, n, some-digit, take_at ds rest (length ds) refl, drop_at ds rest (length ds) refl, value, closed_is rule v d (d + length ds) rest low high h)
 
 pub number_is : (rule : NumberRule) (p v : ℕ) (ws ds rest : List ℕ) → Number rule v ws ds → closes rule rest ≡ true → number_at rule p (ws ++ (ds ++ rest)) ≡ Ok (found v (p + length ws + length ds) rest)
 number_is rule p v ws ds rest n h =
-    let xs = ws ++ (ds ++ rest) in
-    ap (λ x. cond x (gap_at rule p xs) (Err (fault 1 rule.malformed p))) (starts-front white ws (ds ++ rest) n.apart)
-    ∙ ap (λ k. digits_at rule (p + k) (drop k xs)) (gap-front ws ds rest n.blank n.digits n.some)
-    ∙ ap (digits_at rule (p + length ws)) (drop_at ws (ds ++ rest) (length ws) refl)
-    ∙ digits_are rule (p + length ws) v ds rest n.digits n.some n.value n.low n.high h
+    let whole = digits_are rule (p + length ws) v ds rest n.digits n.some n.value n.low n.high h in
+    grind (arith, starts-front white ws (ds ++ rest) n.apart, gap-front ws ds rest n.blank n.digits n.some, drop_at ws (ds ++ rest) (length ws) refl, whole)
 
 -- what is left behind a number, and what there was
 pub divides-length : (rule : NumberRule) (p : ℕ) (bs : List ℕ) (f : Found) → Divides rule p bs f → f.place + length f.rest ≡ p + length bs
