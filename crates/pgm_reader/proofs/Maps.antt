@@ -1,9 +1,9 @@
 -- Reading accepts exactly the maps.
-use Rattle.std.proofs.Common.{◌≡◌, ℕ, ◌+◌, ◌*◌, ◌≤◌, Bool, true, false, cond, ◌&&◌, eqb, ltb, List, [], ◌∷◌, ◌++◌, length, take, drop, Some, None, Ok, Err, Option, Result, sym, refl, ap, ◌∙◌, subst, append_assoc, arith, ltb-false, le-ltb}
+use Rattle.std.proofs.Common.{◌≡◌, ℕ, ◌+◌, ◌*◌, ◌≤◌, Bool, true, false, cond, ◌&&◌, eqb, ltb, List, [], ◌∷◌, ◌++◌, length, take, drop, Some, None, Ok, Err, Option, Result, sym, refl, ap, ◌∙◌, subst, append_assoc, arith, ltb-false}
 use Rattle.std.specs.List.{AllByRecursion}
 use Rattle.std.proofs.lemmas.List.{length-append}
 use Rattle.std.proofs.lemmas.List.Prefix.{end_rest}
-use Rattle.faults.specs.Faults.{fault, told, and_then}
+use Rattle.faults.specs.Faults.{told, and_then}
 use Rattle.faults.specs.declared.Fault.{Fault}
 use Rattle.pgm_reader.specs.declared.fault.ReadFault.{ReadFault}
 use Rattle.pgm_reader.specs.declared.header.Shape.{Shape}
@@ -109,8 +109,7 @@ samples-are : (file rest : List ℕ) (s : Shape) → drop s.first file ≡ rest 
 samples-are file rest s d l enough small =
     let xs = samples file (header s) in
     let none = all_none s.maxval xs (subst (AllByRecursion (λ b. b ≤ s.maxval)) (sym (samples-cut file rest s d)) small) in
-    ap (λ b. cond b (Err (fault 1 14 (length file))) (unless_above (header s) (first_above_of s.maxval xs))) (le-ltb (length file) (s.first + s.columns * s.rows) (omega (arith, l, enough)))
-    ∙ ap (unless_above (header s)) none
+    grind (arith, none)
 
 pub complete : (bs : List ℕ) (h : Header) → GreyMap bs h → image_of bs ≡ Ok h
 unfolding image_of

@@ -2,9 +2,8 @@
 use Rattle.std.proofs.Common.{◌≡◌, ℕ, ◌+◌, ◌<◌, ◌≤◌, Bool, true, false, cond, ◌&&◌, leb, List, [], ◌∷◌, ◌++◌, length, take, drop, Ok, Err, Result, sym, refl, ap, ◌∙◌, arith, take-append-drop}
 use Rattle.std.specs.List.{AllByRecursion}
 use Rattle.std.proofs.lemmas.List.{take_at, drop_at, length-take-le, length-append}
-use Rattle.faults.specs.Faults.{fault}
 use Rattle.faults.specs.declared.Fault.{Fault}
-use Rattle.pgm_reader.specs.Format.{white, digit, run, starts, gap, value_from, NumberRule, Found, found, closes, ranged, closed, digits_on, digits_at, gap_at, number_at}
+use Rattle.pgm_reader.specs.Format.{white, digit, run, starts, gap, value_from, NumberRule, Found, found, closes, closed, digits_at, number_at}
 use Rattle.pgm_reader.specs.Grammar.{Number}
 use Rattle.pgm_reader.proofs.Runs.{run-le, all-run, run-some, run-front, run-full, full-run, starts-front, starts-all, starts-take}
 

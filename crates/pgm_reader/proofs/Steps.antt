@@ -1,8 +1,6 @@
 -- One byte of a header.
-use Rattle.std.proofs.Common.{◌≡◌, ℕ, suc, ◌+◌, ◌-◌, ◌*◌, ◌<◌, ◌≤◌, min, Bool, true, false, cond, ◌&&◌, leb, List, [], ◌∷◌, length, get_or, take, drop, Ok, Err, Option, Result, sym, ap, ◌∙◌, subst, ⊎_elim, add-zero, arith}
-use Rattle.std.proofs.str.Laws.{order}
+use Rattle.std.proofs.Common.{◌≡◌, ℕ, ◌+◌, ◌-◌, ◌*◌, ◌<◌, ◌≤◌, min, true, false, List, [], ◌∷◌, length, get_or, take, drop, Option, Result, sym, ap, ◌∙◌, arith}
 use Rattle.std.proofs.lemmas.List.{at_drop_more}
-use Rattle.faults.specs.Faults.{fault}
 use Rattle.pgm_reader.specs.declared.fault.ReadFault.{ReadFault}
 use Rattle.pgm_reader.specs.declared.header.Kind.TheVariants.{White, Digit}
 use Rattle.pgm_reader.specs.declared.header.Field.{Field}
@@ -11,7 +9,7 @@ use Rattle.pgm_reader.specs.declared.header.Stage.{Stage}
 use Rattle.pgm_reader.specs.declared.header.Stage.TheVariants.{Opened, Gap, Digits}
 use Rattle.pgm_reader.specs.declared.header.Shape.{Shape}
 use Rattle.pgm_reader.specs.declared.header.HeaderMachine.{HeaderMachine}
-use Rattle.pgm_reader.specs.Format.{white, digit, run, value_from, NumberRule, found, closes, closed, digits_on, digits_at, gap_at, number_at, shape_of}
+use Rattle.pgm_reader.specs.Format.{white, digit, run, value_from, NumberRule, closed, digits_on, gap_at, number_at, shape_of}
 use Rattle.pgm_reader.specs.Machine.{kind_of, largest_of, rule_of, on_field, on_stage, left, answered, Steps, Closes}
 use Rattle.pgm_reader.proofs.Numbers.{white-no-digit}
 
