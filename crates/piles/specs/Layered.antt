@@ -10,14 +10,13 @@ use Rattle.piles.specs.declared.layers.Layer.{Layer}
 use Rattle.piles.specs.declared.layers.Layer.TheVariants as layer
 
 abbrev pub layer_on : Layer → Raster → Raster
-layer_on layer.Clear p = p
 layer_on (layer.Window left top columns rows) p = windowed left top columns rows p
 layer_on layer.Negative p = negated p
 layer_on layer.Halving p = halved p
 
 -- What a picture with a layer means, by what the one below means.
-abbrev pub meaning : {P : Type 0} → (P → Raster) → EitherPicture (EitherPicture P (Window P)) (EitherPicture (Negative P) (Halving P)) → Raster
+abbrev pub meaning : {P : Type 0} → (P → Raster) → EitherPicture (Window P) (EitherPicture (Negative P) (Halving P)) → Raster
 meaning shown q =
     either
-    (either shown (λ w. windowed w.left w.top w.columns w.rows (shown w.below)))
+    (λ w. windowed w.left w.top w.columns w.rows (shown w.below))
     (either (λ n. negated (shown n.below)) (λ h. halved (shown h.below))) q

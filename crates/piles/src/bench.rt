@@ -1,17 +1,17 @@
-// Three stations, one for each rule, that get the same calls.
+// Three stations, one for each rule, that get the same calls: one by one, since each is a type of its own.
 ghost use Rattle.std.specs.Prelude.{◌≡◌, MatchResult};
 ghost use Rattle.station.specs.Account.{start};
 ghost use Rattle.station.specs.States.{account_of};
 
-use crate::script::{Line, number};
-use anyhow::anyhow;
+use crate::script::Call;
 use pictures::Picture;
 use rules::{Absolute, Squares, Tolerance};
 use station::fault::StationFault;
 use station::station::{CutAnswer, Station};
 
 #[derive(Drop)]
-pub(crate) struct Bench {
+pub(crate) struct Bench<'a> {
+    rt: &'a HostRuntime,
     squares: Station<Squares>,
     absolute: Station<Absolute>,
     tolerance: Station<Tolerance>,
@@ -35,133 +35,124 @@ fn print_done(rt: &HostRuntime, answer: Result<(), StationFault>) -> anyhow::Res
 fn sum_of(answer: Result<CutAnswer, StationFault>) -> u64
     ensures { MatchResult answer (λ cut. result ≡ cut.sum) (λ _. result ≡ 0) }
 {
-    match answer {
-        Ok(cut) => cut.sum,
-        Err(_) => 0,
-    }
+    answer.map_or(0, |cut| cut.sum)
 }
 
-// Columns, rows and levels as the picture answers them.
-fn show<P: Picture>(rt: &HostRuntime, picture: &P) -> anyhow::Result<()> {
-    let columns = picture.columns();
-    let rows = picture.rows();
-    print!(rt; "show {columns} {rows}")?;
-    for y in 0..rows {
-        for x in 0..columns {
-            if let Some(level) = picture.level(x, y) {
-                print!(rt; " {level}")?;
-            }
-        }
-    }
-    println!(rt; "")?;
-    Ok(())
-}
-
-// The level at a place.
-fn at<P: Picture>(rt: &HostRuntime, picture: &P, given: &[usize]) -> anyhow::Result<()> {
-    match picture.level(number(given, 0)?, number(given, 1)?) {
-        Some(level) => println!(rt; "at {level}")?,
-        None => println!(rt; "at none")?,
-    }
-    Ok(())
-}
-
-impl Bench {
+impl<'a> Bench<'a> {
     // Nothing in hand, and no cut set.
-    pub(crate) fn new() -> Bench
+    pub(crate) fn new(rt: &'a HostRuntime) -> Self
         ensures squares { account_of result.squares ≡ start }
         ensures absolute { account_of result.absolute ≡ start }
         ensures tolerance { account_of result.tolerance ≡ start }
     {
         Bench {
+            rt,
             squares: Station::new(Squares),
             absolute: Station::new(Absolute),
             tolerance: Station::new(Tolerance { within: 2 }),
         }
     }
 
-    // The pixels in hand: how many, and then each occupied level with its count.
-    fn print_hand(&self, rt: &HostRuntime) -> anyhow::Result<()> {
-        let histogram = self.squares.histogram();
-        print!(rt; "hand {}", self.squares.total())?;
-        for level in 0..256u16 {
-            let count = histogram.count((level & 0xff) as u8);
-            if count > 0 {
-                print!(rt; " {level}:{count}")?;
+    // As new.
+    pub(crate) fn clear(&mut self)
+        ensures squares { account_of self.new.squares ≡ start }
+        ensures absolute { account_of self.new.absolute ≡ start }
+        ensures tolerance { account_of self.new.tolerance ≡ start }
+    {
+        *self = Bench::new(self.rt);
+    }
+
+    // Makes a call with a picture.
+    pub(crate) fn answer<P: Picture>(&mut self, call: Call, picture: &P) -> anyhow::Result<()> {
+        match call {
+            Call::Show => self.show(picture),
+            Call::At { x, y } => self.at(picture, x, y),
+            Call::Lay => self.lay(picture),
+            Call::Lift => self.lift(picture),
+            Call::Otsu => self.otsu(),
+            Call::Paint { length } => self.paint(picture, length),
+        }
+    }
+
+    // Columns, rows and levels as the picture answers them.
+    fn show<P: Picture>(&self, picture: &P) -> anyhow::Result<()> {
+        let columns = picture.columns();
+        let rows = picture.rows();
+        print!(self.rt; "show {columns} {rows}")?;
+        for y in 0..rows {
+            for x in 0..columns {
+                if let Some(level) = picture.level(x, y) {
+                    print!(self.rt; " {level}")?;
+                }
             }
         }
-        println!(rt; "")?;
+        println!(self.rt; "")?;
         Ok(())
     }
 
-    fn lay<P: Picture>(&mut self, rt: &HostRuntime, picture: &P) -> anyhow::Result<()> {
-        print_done(rt, self.squares.lay(picture))?;
-        let _ = self.absolute.lay(picture);
-        let _ = self.tolerance.lay(picture);
-        self.print_hand(rt)
+    // The level at a place.
+    fn at<P: Picture>(&self, picture: &P, x: usize, y: usize) -> anyhow::Result<()> {
+        match picture.level(x, y) {
+            Some(level) => println!(self.rt; "at {level}")?,
+            None => println!(self.rt; "at none")?,
+        }
+        Ok(())
     }
 
-    fn lift<P: Picture>(&mut self, rt: &HostRuntime, picture: &P) -> anyhow::Result<()> {
-        print_done(rt, self.squares.lift(picture))?;
+    // The pixels in hand: how many, and then each occupied level with its count.
+    fn print_hand(&self) -> anyhow::Result<()> {
+        let histogram = self.squares.histogram();
+        print!(self.rt; "hand {}", self.squares.total())?;
+        for level in 0..=u8::MAX {
+            let count = histogram.count(level);
+            if count > 0 {
+                print!(self.rt; " {level}:{count}")?;
+            }
+        }
+        println!(self.rt; "")?;
+        Ok(())
+    }
+
+    fn lay<P: Picture>(&mut self, picture: &P) -> anyhow::Result<()> {
+        print_done(self.rt, self.squares.lay(picture))?;
+        let _ = self.absolute.lay(picture);
+        let _ = self.tolerance.lay(picture);
+        self.print_hand()
+    }
+
+    fn lift<P: Picture>(&mut self, picture: &P) -> anyhow::Result<()> {
+        print_done(self.rt, self.squares.lift(picture))?;
         let _ = self.absolute.lift(picture);
         let _ = self.tolerance.lift(picture);
-        self.print_hand(rt)
+        self.print_hand()
     }
 
     // The classes, the sum by each rule, and the bands.
-    fn otsu(&mut self, rt: &HostRuntime) -> anyhow::Result<()> {
+    fn otsu(&mut self) -> anyhow::Result<()> {
         let absolute = sum_of(self.absolute.otsu_cut());
         let tolerance = sum_of(self.tolerance.otsu_cut());
         match self.squares.otsu_cut() {
-            Ok(cut) => print!(rt; "cut {} {} {absolute} {tolerance}", cut.classes, cut.sum)?,
-            Err(refusal) => return print_fault(rt, refusal),
+            Ok(cut) => print!(self.rt; "cut {} {} {absolute} {tolerance}", cut.classes, cut.sum)?,
+            Err(refusal) => return print_fault(self.rt, refusal),
         }
-        for number in 1..9usize {
-            if let Some(band) = self.squares.band(number) {
-                print!(rt; " {} {} {} {}", band.low, band.high, band.level, band.count)?;
-            }
+        for band in (1..9).filter_map(|number| self.squares.band(number)) {
+            print!(self.rt; " {} {} {} {}", band.low, band.high, band.level, band.count)?;
         }
-        println!(rt; "")?;
+        println!(self.rt; "")?;
         Ok(())
     }
 
     // Paints into a buffer of given bytes, and prints all of it.
-    fn paint<P: Picture>(
-        &self,
-        rt: &HostRuntime,
-        picture: &P,
-        length: usize,
-    ) -> anyhow::Result<()> {
-        let mut buffer = Vec::new(rt.alloc());
-        let mut byte = 3u8;
-        for _ in 0..length {
-            buffer.push(byte)?;
-            byte = byte.wrapping_add(7);
-        }
-        print_done(rt, self.squares.paint(picture, buffer.as_mut_slice()))?;
-        print!(rt; "buffer")?;
+    fn paint<P: Picture>(&self, picture: &P, length: usize) -> anyhow::Result<()> {
+        let mut buffer: Vec<u8> = (0..length)
+            .map(|i| (i.wrapping_mul(7).wrapping_add(3) & 0xff) as u8)
+            .collect(self.rt.alloc())?;
+        print_done(self.rt, self.squares.paint(picture, buffer.as_mut_slice()))?;
+        print!(self.rt; "buffer")?;
         for byte in buffer.as_slice() {
-            print!(rt; " {byte}")?;
+            print!(self.rt; " {byte}")?;
         }
-        println!(rt; "")?;
+        println!(self.rt; "")?;
         Ok(())
-    }
-}
-
-// Makes the call of a script's line with a picture.
-pub(crate) fn answer<P: Picture>(
-    rt: &HostRuntime,
-    bench: &mut Bench,
-    line: Line<'_>,
-    picture: &P,
-) -> anyhow::Result<()> {
-    match line.word {
-        "show" => show(rt, picture),
-        "at" => at(rt, picture, line.given),
-        "lay" => bench.lay(rt, picture),
-        "lift" => bench.lift(rt, picture),
-        "otsu" => bench.otsu(rt),
-        "paint" => bench.paint(rt, picture, number(line.given, 0)?),
-        _ => Err(anyhow!("no such call")),
     }
 }

@@ -4,42 +4,39 @@ ghost use Rattle.piles.specs.Layered.{layer_on, meaning};
 
 use pictures::{EitherPicture, Halving, Negative, Picture, Window};
 
-#[derive(Clone, Copy)]
+#[derive(Clone, Copy, Default)]
 pub(crate) enum Layer {
-    Clear,
     Window {
         left: usize,
         top: usize,
         columns: usize,
         rows: usize,
     },
+    // The free places of an ArrayVec hold the default.
+    #[default]
     Negative,
     Halving,
 }
 
-pub(crate) type Layered<P> = EitherPicture<
-    EitherPicture<P, Window<P>>,
-    EitherPicture<Negative<P>, Halving<P>>,
->;
+pub(crate) type Layered<P> = EitherPicture<Window<P>, EitherPicture<Negative<P>, Halving<P>>>;
 
-// A layer on a picture; the picture itself under a clear one.
+// A layer on a picture.
 pub(crate) fn layered<P: Picture>(below: P, layer: Layer) -> Layered<P>
     ensures { meaning P.Picture.shown result ≡ layer_on layer (P.Picture.shown below) }
 {
     match layer {
-        Layer::Clear => EitherPicture::First(EitherPicture::First(below)),
         Layer::Window {
             left,
             top,
             columns,
             rows,
-        } => EitherPicture::First(EitherPicture::Second(Window {
+        } => EitherPicture::First(Window {
             below,
             left,
             top,
             columns,
             rows,
-        })),
+        }),
         Layer::Negative => EitherPicture::Second(EitherPicture::First(Negative { below })),
         Layer::Halving => EitherPicture::Second(EitherPicture::Second(Halving { below })),
     }
