@@ -13,6 +13,7 @@ use std::fmt;
 use std::num::saturating_f32_to_u8;
 
 // Float samples in the caller's memory, as whole rows.
+// A type of its own beside the byte picture: a trait of samples in `pictures` and f32 are both foreign here.
 #[derive(Clone, Copy)]
 pub struct DosePicture<'a> {
     grid: Grid<'a, f32>,

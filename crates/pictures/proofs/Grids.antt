@@ -16,13 +16,13 @@ pub grid-rows : {S : Type 0} (g : Grid S) (ls : List ℕ) → length ls ≡ leng
     → grid_showing g ls ≡ raster g.columns g.rows (take (g.columns * g.rows) ls)
 grid-rows g ls l h = showing-rows g.columns g.rows ls g.narrow g.low (omega (arith, g.held)) h
 
--- The grid of a column count, over as many samples as there are levels, means the picture of the levels.
-pub grid-given : {S : Type 0} (c : ℕ) (g : Grid S) (ls : List ℕ) → length ls ≡ length g.samples.now → g.columns ≡ columns_given c → g.rows ≡ whole_rows (columns_given c) (length ls)
-    → ((i : ℕ) → get_or ls i 0 ≤ 255) → grid_showing g ls ≡ byte_raster c ls
-grid-given c g ls l e f h =
-    grid-rows g ls l h
+-- A grid of some samples for a column count means the picture of their levels.
+pub grid-given : {S : Type 0} (c : ℕ) (g : Grid S) (ss : List S) (ls : List ℕ) → g.samples.now ≡ ss → length ls ≡ length ss
+    → g.columns ≡ columns_given c → g.rows ≡ whole_rows (columns_given c) (length ss) → ((i : ℕ) → get_or ls i 0 ≤ 255) → grid_showing g ls ≡ byte_raster c ls
+grid-given c g ss ls s l e f h =
+    grid-rows g ls (l ∙ ap length (sym s)) h
     ∙ ap (λ k. raster k g.rows (take (k * g.rows) ls)) e
-    ∙ ap (λ n. raster (columns_given c) n (take (columns_given c * n) ls)) f
+    ∙ ap (λ n. raster (columns_given c) n (take (columns_given c * n) ls)) (f ∙ ap (whole_rows (columns_given c)) (sym l))
 
 -- The level at a place of a grid.
 pub grid-at : {S : Type 0} (g : Grid S) (ls : List ℕ) (x y : ℕ) → length ls ≡ length g.samples.now → ((i : ℕ) → get_or ls i 0 ≤ 255)

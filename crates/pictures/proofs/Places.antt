@@ -1,8 +1,9 @@
 -- What a question about a place answers.
-use Rattle.std.proofs.Common.{◌≡◌, ℕ, ◌+◌, ◌*◌, ◌/◌, ◌%◌, ◌<◌, ◌≤◌, min, true, false, ◌&&◌, ltb, leb, List, length, get_or, take, Some, None, Option, sym, ap, ◌∙◌, ⊎_elim, mul_comm, arith}
-use Rattle.std.proofs.lemmas.Bool.{cases_Bool, lt-ltb, le-leb, and_parts, ltb-true, cond-true}
+use Rattle.std.proofs.Common.{◌≡◌, ℕ, ◌+◌, ◌*◌, ◌/◌, ◌%◌, ◌<◌, ◌≤◌, min, ◌&&◌, ltb, leb, List, length, get_or, take, Some, None, sym, ap, ◌∙◌, mul_comm, arith}
+use Rattle.std.proofs.lemmas.Bool.{lt-ltb, le-leb, and_parts, ltb-true, cond-true}
 use Rattle.std.proofs.lemmas.List.FromFn.{fill_by_all}
 use Rattle.std.proofs.lemmas.List.{length-take-le, get_or-take, take_all}
+use Rattle.std.proofs.lemmas.Option.{cond_some, none-some}
 use Rattle.std.proofs.lemmas.Nat.{div-add-mod', div-mul-add}
 use Rattle.pictures.specs.Raster.{Raster, raster, level_at, place}
 use Rattle.pictures.specs.Drawn.{drawn, drawn-place}
@@ -22,19 +23,13 @@ pub record Answered (p : Raster) (x y v : ℕ) : Type 0 where
 
 pub answered : (p : Raster) (x y v : ℕ) → Some v ≡ level_at p x y → Answered p x y v
 answered p x y v h =
-    ⊎_elim
-    (λ (e : (ltb x p.columns && ltb y p.rows) ≡ true).
-    let q = and_parts (ltb x p.columns) (ltb y p.rows) e in
-    let k : Some v ≡ Some (place p x y) = rw e at h in
-    record { column = ltb-true x p.columns q.0; row = ltb-true y p.rows q.1; is = cc })
-    (λ (e : (ltb x p.columns && ltb y p.rows) ≡ false).
-    let k : ◌≡◌ {A = Option ℕ} (Some v) None = rw e at h in
-    let z : ◌≡◌ {A = ℕ} 0 1 = cc in absurd (omega arith))
-    (cases_Bool (ltb x p.columns && ltb y p.rows))
+    let q = cond_some (ltb x p.columns && ltb y p.rows) (place p x y) v (sym h) in
+    let r = and_parts (ltb x p.columns) (ltb y p.rows) q.0 in
+    record { column = ltb-true x p.columns r.0; row = ltb-true y p.rows r.1; is = sym q.1 }
 
 -- Inside, none is never the answer.
 pub never-none : (p : Raster) (x y : ℕ) → x < p.columns → y < p.rows → None ≡ level_at p x y → ⊥
-never-none p x y h k e = let q : None ≡ Some (place p x y) = e ∙ inside p x y h k in let z : ◌≡◌ {A = ℕ} 0 1 = cc in omega arith
+never-none p x y h k e = none-some (place p x y) (e ∙ inside p x y h k)
 
 -- Columns and rows that fit some levels mean the first levels, row by row.
 pub showing-rows : (c r : ℕ) (bs : List ℕ) → c ≤ 4096 → r ≤ 4096 → c * r ≤ length bs → ((i : ℕ) → get_or bs i 0 ≤ 255) → showing c r bs ≡ raster c r (take (c * r) bs)
