@@ -1,8 +1,9 @@
 -- The laws of the shut lists of 256 numbers.
-use Rattle.std.proofs.Common.{◌≡◌, ℕ, ◌<◌, List, length, get_or, replicate, refl, arith}
+use Rattle.std.proofs.Common.{◌≡◌, ℕ, ◌*◌, ◌<◌, List, length, get_or, replicate, sum, sym, refl, ap, mul-one, arith}
 use Rattle.std.proofs.lemmas.List.{get_or-replicate}
 use Rattle.std.proofs.lemmas.List.FromFn.{length-map-range_with_len, get_or-map-range_with_len, fill_by_all}
 use Rattle.histogram.specs.Levels.{each, zeros}
+use Rattle.histogram.specs.Totals.{sum_of, pixels}
 
 pub each_at : (f : ℕ → ℕ) (j : ℕ) → j < 256 → get_or (each f) j 0 ≡ f j
 unfolding each
@@ -27,3 +28,7 @@ zeros-at j h = get_or-replicate 256 j 0 0 h
 pub zeros-long : length zeros ≡ 256
 unfolding zeros
 zeros-long = refl
+
+pub pixels-is : (h : List ℕ) → length h ≡ 256 → sum h ≡ pixels h
+unfolding sum_of each
+pixels-is h e = ap sum (each_all (λ j. get_or h j 0 * 1) h e (λ k _. sym (mul-one (get_or h k 0))))

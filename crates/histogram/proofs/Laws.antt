@@ -1,5 +1,5 @@
 -- The laws of the one sum over levels: none, one more level, bands joined, pointwise order.
-use Rattle.std.proofs.Common.{◌≡◌, ℕ, zero, suc, ◌+◌, ◌-◌, ◌*◌, ◌<◌, ◌≤◌, max, List, map, length, get_or, sum, sym, ap, ◌∙◌, subst, inl, inr, ⊎_elim, le_of_eq, add-zero, add-suc, mul_comm, add-mul, eq-zero-or-pos, mul-le-mul_left, mul-zero, zero-mul, mul-one, mul-add, add-one, arith}
+use Rattle.std.proofs.Common.{◌≡◌, ℕ, zero, suc, ◌+◌, ◌-◌, ◌*◌, ◌<◌, ◌≤◌, List, map, length, get_or, sum, sym, ap, ◌∙◌, subst, inl, inr, ⊎_elim, le_of_eq, add-zero, add-suc, mul_comm, add-mul, eq-zero-or-pos, mul-le-mul_left, mul-zero, zero-mul, mul-one, mul-add, add-one, arith}
 use Rattle.std.proofs.lemmas.List.{get_or_past}
 use Rattle.std.specs.List.{range_with_len}
 use Rattle.std.proofs.lemmas.List.FromFn.{sum_by-map-range_with_len_more}
@@ -135,13 +135,17 @@ room h a z l =
     (λ (m : z ≤ a). record { few = omega (arith, sum-none one h a z m); dim = omega (arith, sum-none level h a z m) })
     (cases_lt a z)
 
--- A loop over the levels from a to b has ended at z, or had no turn.
-pub sum-ended : (f : ℕ → ℕ) (h : List ℕ) (a b z : ℕ) → a ≤ z → b + 1 ≤ z → z ≤ max a (b + 1) → sum_of f h a z ≡ sum_of f h a (suc b)
-sum-ended f h a b z l m n =
+-- A loop over the levels from a to b that had no turn.
+pub sum-unbegun : (f : ℕ → ℕ) (h : List ℕ) (a b z : ℕ) → (a ≤ b → z ≤ b) → b < z → (b < a → z ≡ a) → sum_of f h a z ≡ sum_of f h a (suc b)
+sum-unbegun f h a b z in' past e =
     ⊎_elim
-    (λ (k : a < suc (suc b)). let e : z ≡ suc b = omega arith in ap (sum_of f h a) e)
-    (λ (k : suc (suc b) ≤ a). sum-none f h a z (omega arith) ∙ sym (sum-none f h a (suc b) (omega arith)))
-    (cases_lt a (suc (suc b)))
+    (λ (l : b < a). sum-none f h a z (omega (arith, e l)) ∙ sym (sum-none f h a (suc b) (omega arith)))
+    (λ (l : a ≤ b). absurd (omega (arith, in' l)))
+    (cases_lt b a)
+
+-- Its last turn.
+pub sum-last : (f : ℕ → ℕ) (h : List ℕ) (a b z n v : ℕ) → a ≤ z → z ≡ b → n ≡ sum_of f h a z → v ≡ get_or h z 0 * f z → n + v ≡ sum_of f h a (suc b)
+sum-last f h a b z n v l e i j = omega (arith, sum-suc f h a z l, ap (λ x. sum_of f h a (suc x)) e, i, j)
 
 -- Where f is at most m at each level, the total is at most m a pixel.
 pub sum-most : (f : ℕ → ℕ) (h : List ℕ) (m a z : ℕ) → ((j : ℕ) → j < z → f j ≤ m) → sum_of f h a z ≤ m * sum_of one h a z

@@ -1,6 +1,8 @@
--- What a tally holds.
-use Rattle.std.specs.Prelude.{ℕ, List}
-use Rattle.histogram.specs.declared.tally.Tally.{Tally}
+-- What makes a histogram with a total a tally.
+use Rattle.std.specs.Prelude.{◌≡◌, ℕ, ◌≤◌, List, length}
+use Rattle.histogram.specs.Totals.{pixels}
 
-abbrev pub counts_of : Tally → List ℕ
-counts_of t = t.histogram.counts
+pub record IsTally (h : List ℕ) (total : ℕ) : Type 0 where
+  pub long : length h ≡ 256
+  pub adds : pixels h ≡ total
+  pub few : total ≤ 65536

@@ -1,12 +1,13 @@
 // The histogram of a picture.
-ghost use Rattle.std.specs.Prelude.{◌≡◌, ◌+◌, ◌^◌, ◌<◌, MatchOption, slice_index, slice_set};
+ghost use Rattle.std.specs.Prelude.{◌≡◌, ℕ, ◌+◌, ◌^◌, ◌<◌, MatchOption, slice_index, slice_set};
 ghost use Rattle.histogram.specs.Levels.{zeros};
-ghost use Rattle.histogram.specs.Counts.{histogram_of};
+ghost use Rattle.histogram.specs.Counts.{histogram_of, added, removed};
 ghost use Rattle.histogram.specs.Totals.{pixels};
 ghost use Rattle.histogram.specs.Extents.{extent_of};
 ghost use Rattle.histogram.specs.Lacks.{lacking, Covers, Lacks};
 
 use pictures::Picture;
+use std::array;
 
 // How many pixels there are of each level.
 #[derive(Clone, Copy)]
@@ -87,11 +88,7 @@ impl Histogram {
     pub fn total(&self) -> u64
         ensures { result ≡ pixels self.now.counts }
     {
-        let mut total = 0;
-        for level in 0..256usize {
-            total += self.counts[level] as u64;
-        }
-        total
+        self.counts.iter().map(|count| u64::from(*count)).sum()
     }
 
     // The lowest level of which more pixels are wanted than there are; none where there are enough.
@@ -99,12 +96,28 @@ impl Histogram {
         ensures value { result ≡ lacking self.now.counts wanted.now.counts }
         ensures lowest { MatchOption result (Covers self.now.counts wanted.now.counts) (Lacks self.now.counts wanted.now.counts) }
     {
-        for level in 0..256usize {
-            if self.counts[level] < wanted.counts[level] {
-                return Some(level as u8);
-            }
-        }
-        None
+        let level = self
+            .counts
+            .iter()
+            .zip(wanted.counts.iter())
+            .position(|(have, want)| *have < *want)?;
+        Some(level as u8)
+    }
+
+    // Level by level, the counts of another histogram on top.
+    pub(crate) fn add(&mut self, more: &Histogram)
+        requires { (k : ℕ) → slice_index self.old.counts k + slice_index more.now.counts k < 2 ^ 32 }
+        ensures { self.new.counts ≡ added self.old.counts more.now.counts }
+    {
+        self.counts = array::from_fn(|level| self.counts[level] + more.counts[level]);
+    }
+
+    // Level by level, the counts of another histogram off.
+    pub(crate) fn subtract(&mut self, less: &Histogram)
+        requires { Covers self.old.counts less.now.counts }
+        ensures { self.new.counts ≡ removed self.old.counts less.now.counts }
+    {
+        self.counts = array::from_fn(|level| self.counts[level] - less.counts[level]);
     }
 
     pub fn extent(&self) -> Extent

@@ -1,7 +1,6 @@
 use Rattle.std.proofs.Common.{◌+◌, ◌*◌, get_or, ap, ◌∙◌, arith}
 use Rattle.pictures.proofs.Places.{never-none}
-use Rattle.histogram.specs.Counts.{histogram_of}
-use Rattle.histogram.proofs.Walks.{seen, counted_none, counted-more, counted-all, counted-few}
+use Rattle.histogram.proofs.Walks.{seen, counted_none, counted-more, counted-few}
 use Rattle.histogram.proofs.histogram.Histogram.of_picture.Goals as goal
 use Rattle.histogram.proofs.histogram.Histogram.of_picture.Goals.{in-Some, in_default}
 
@@ -25,8 +24,3 @@ loop-x-preserved g c =
           c.loop-x.histogram.counts c.match-level.histogram.counts c.loop-x.invariant (ap (λ t. t.counts) w.histogram-is ∙ w.put.ensures)
       | in_default w ↦ absurd (never-none p c.loop-x.x c.loop-y.y (omega arith) (omega arith) w.in_default.ensures)
     ]
-
-pub returns : goal.returns
-returns g c =
-    let p = g.P.Picture.shown c.args.picture.now in
-    c.loop-y.invariant ∙ ap histogram_of (counted-all p (g.met.P.Picture.sound c.args.picture.now) c.loop-y.y c.columns-columns.result c.columns-columns.ensures (omega arith) (omega arith))

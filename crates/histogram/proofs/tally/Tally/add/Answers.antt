@@ -6,14 +6,14 @@ use Rattle.histogram.proofs.tally.Tally.add.Goals as goal
 
 pub add-requires : goal.add-requires
 add-requires c = λ k.
-    let t = c.args.self.now in
-    let m = c.args.more.now in
-    omega (arith, count-le t.histogram.counts k t.long, count-le m.histogram.counts k m.long, t.adds, m.adds, t.few, m.few)
+    let t = c.self in
+    let m = c.more in
+    omega (arith, count-le t.inside.histogram.counts k t.invariant.long, count-le m.inside.histogram.counts k m.invariant.long, t.invariant.adds, m.invariant.adds, t.invariant.few, m.invariant.few)
 
 pub invariant_of-self : goal.invariant_of-self
 invariant_of-self c =
-    let t = c.args.self.now in
-    let m = c.args.more.now in
+    let t = c.self in
+    let m = c.more in
     let e = c.add.ensures in
-    let s = ap pixels e ∙ sum_added one t.histogram.counts m.histogram.counts in
-    record { long = ap length e ∙ each_long _; adds = omega (arith, s, t.adds, m.adds); few = omega arith }
+    let s = ap pixels e ∙ sum_added one t.inside.histogram.counts m.inside.histogram.counts in
+    record { long = ap length e ∙ each_long _; adds = omega (arith, s, t.invariant.adds, m.invariant.adds); few = omega arith }
