@@ -1,33 +1,28 @@
 -- The bands of a cut set, and its sum band by band.
-use Rattle.std.proofs.Common.{◌≡◌, ℕ, ◌+◌, ◌-◌, ◌*◌, ◌<◌, ◌≤◌, true, cond, ◌&&◌, eqb, leb, List, [], ◌∷◌, ◌++◌, length, take, Some, None, Option, sym, ap, ◌∙◌, arith, MatchOption}
+use Rattle.std.proofs.Common.{sum_by, sum, map, refl, ◌≡◌, ℕ, ◌+◌, ◌*◌, ◌<◌, ◌≤◌, cond, eqb, List, [], ◌∷◌, length, take, Some, None, Option, ap, ◌∙◌, arith, MatchOption}
 use Rattle.std.specs.Option.{option_map}
-use Rattle.std.proofs.lemmas.List.{length-take-le, get_or-take, take_more}
-use Rattle.std.proofs.lemmas.Bool.{le-leb, and_from, cond-true, ne_eqb}
+use Rattle.std.proofs.lemmas.List.{length-take-le}
+use Rattle.std.proofs.lemmas.List.Sums.{sum-map, sum_by-cons}
+use Rattle.std.proofs.lemmas.Bool.{ne_eqb}
 use Rattle.histogram.specs.Totals.{sum_of, pixels}
 use Rattle.histogram.proofs.Laws.{sum-most, room}
 use Rattle.histogram.proofs.Chosen.{some-unless}
 use Rattle.cut_sets.specs.declared.band.Band.{Band}
 use Rattle.cut_sets.specs.declared.cut_set.CutSet.{CutSet}
 use Rattle.cut_sets.specs.declared.table.BandTable.{BandTable}
-use Rattle.cut_sets.specs.Bands.{band_at, no_band, numbered, Cuts}
+use Rattle.cut_sets.specs.Bands.{Cuts}
 use Rattle.cut_sets.specs.Sets.{bands_of}
 use Rattle.cut_sets.specs.CutSums.{band_sum_of, cut_sum}
 
--- A band that is there, in the first c places of a table.
-pub numbered-place : (ps : List Band) (c n : ℕ) → c ≤ length ps → 1 ≤ n → n ≤ c → Some (band_at ps (n - 1)) ≡ numbered (take c ps) n
-numbered-place ps c n l a b =
-    let k : length (take c ps) ≡ c = length-take-le c ps l in
-    let t : (leb 1 n && leb n (length (take c ps))) ≡ true = and_from (leb 1 n) (leb n (length (take c ps))) (le-leb 1 n a) (le-leb n (length (take c ps)) (omega (arith, k))) in
-    ap (λ (b : Band). Some b) (sym (get_or-take c ps (n - 1) no_band (omega arith)))
-    ∙ sym (cond-true (leb 1 n && leb n (length (take c ps))) (Some (band_at (take c ps) (n - 1))) None t)
+pub bands-few : (s : CutSet) → length (bands_of s) ≤ 8
+bands-few s = omega (arith, length-take-le s.classes s.bands.places (omega (arith, s.few, s.bands.full)), s.few)
 
-cut-push : (d : ℕ → ℕ → ℕ) (h : List ℕ) (bs : List Band) (b : Band) → cut_sum d h (bs ++ b ∷ []) ≡ cut_sum d h bs + band_sum_of d h b
-cut-push d h [] b = omega arith
-cut-push d h (x ∷ xs) b = omega (arith, cut-push d h xs b)
+cut-by : (d : ℕ → ℕ → ℕ) (h : List ℕ) (bs : List Band) → sum_by (band_sum_of d h) bs ≡ cut_sum d h bs
+cut-by d h [] = refl
+cut-by d h (b ∷ bs) = sum_by-cons (band_sum_of d h) b bs ∙ ap (λ n. band_sum_of d h b + n) (cut-by d h bs)
 
--- One band more.
-pub cut-more : (d : ℕ → ℕ → ℕ) (h : List ℕ) (ps : List Band) (i : ℕ) → i < length ps → cut_sum d h (take (i + 1) ps) ≡ cut_sum d h (take i ps) + band_sum_of d h (band_at ps i)
-cut-more d h ps i l = ap (cut_sum d h) (take_more ps i no_band l) ∙ cut-push d h (take i ps) (band_at ps i)
+pub cut-sum-is : (d : ℕ → ℕ → ℕ) (h : List ℕ) (bs : List Band) → sum (map (band_sum_of d h) bs) ≡ cut_sum d h bs
+cut-sum-is d h bs = sum-map (band_sum_of d h) bs ∙ cut-by d h bs
 
 -- The distances from at most 65,536 pixels to one level.
 pub distance_most : (d : ℕ → ℕ → ℕ) (h : List ℕ) (v a z : ℕ) → ((j : ℕ) → j ≤ 255 → d j v ≤ 65025) → pixels h ≤ 65536 → z ≤ 256 → sum_of (λ j. d j v) h a z ≤ 65536 * 65025

@@ -3,5 +3,4 @@
 
 pub mod band;
 pub mod cut_set;
-pub mod cutting;
 pub mod table;

@@ -1,6 +1,6 @@
 // The table that a cut set keeps its bands in.
-ghost use Rattle.std.specs.Prelude.{◌≡◌, length, replicate, slice_set};
-ghost use Rattle.cut_sets.specs.Bands.{no_band};
+ghost use Rattle.std.specs.Prelude.{◌≡◌, ◌≤◌, true, false, length, replicate, slice_set};
+ghost use Rattle.cut_sets.specs.Bands.{no_band, Inside, Rising};
 
 use crate::band::Band;
 
@@ -16,12 +16,7 @@ impl BandTable {
         ensures { result.places ≡ replicate 8 no_band }
     {
         BandTable {
-            places: [Band {
-                low: 0,
-                high: 0,
-                level: 0,
-                count: 0,
-            }; 8],
+            places: [Band::default(); 8],
         }
     }
 
@@ -32,5 +27,18 @@ impl BandTable {
         if place < 8 {
             self.places[place] = band;
         }
+    }
+
+    // Whether the first bands rise and have their levels inside.
+    pub(crate) fn rises(&self, classes: usize) -> bool
+        requires { classes ≤ 8 }
+        ensures yes { result ≡ true → Inside classes self.now.places × Rising classes self.now.places }
+        ensures no { result ≡ false → Inside classes self.now.places → Rising classes self.now.places → ⊥ }
+    {
+        let bands = &self.places[..classes];
+        bands
+            .iter()
+            .all(|band| band.low <= band.level && band.level <= band.high)
+            && bands.windows(2).all(|pair| pair[0].high < pair[1].low)
     }
 }
