@@ -6,21 +6,12 @@ ghost use Rattle.station.specs.States.{account_of};
 ghost use Rattle.listing.specs.Classes.{two_classes_of};
 ghost use Rattle.listing.specs.Listing.{listing_lines, picture_listing, fault_line_of};
 
-use cut_sets::band::Band;
 use faults::Fault;
 use pictures::Picture;
 use rules::{DistanceRule, Squares};
 use station::fault::StationFault;
 use station::station::Station;
 use text::short::Text;
-
-// What stands for a band that is absent.
-const NO_BAND: Band = Band {
-    low: 0,
-    high: 0,
-    level: 0,
-    count: 0,
-};
 
 // What is listed of a cut into two classes, besides its sum.
 #[derive(Clone, Copy)]
@@ -34,8 +25,8 @@ pub(crate) struct TwoClasses {
 fn two_classes<R: DistanceRule>(station: &Station<R>) -> TwoClasses
     ensures { result ≡ two_classes_of (account_of station.now).cuts }
 {
-    let low = station.band(1).unwrap_or(NO_BAND);
-    let high = station.band(2).unwrap_or(NO_BAND);
+    let low = station.band(1).unwrap_or_default();
+    let high = station.band(2).unwrap_or_default();
     TwoClasses {
         threshold: low.high,
         low: low.level,

@@ -4,6 +4,7 @@ ghost use Rattle.station.specs.Account.{start};
 ghost use Rattle.station.specs.States.{account_of};
 
 use crate::script::Call;
+use faults::Fault;
 use pictures::Picture;
 use rules::{Absolute, Squares, Tolerance};
 use station::fault::StationFault;
@@ -18,8 +19,7 @@ pub(crate) struct Bench<'a> {
 }
 
 fn print_fault(rt: &HostRuntime, refusal: StationFault) -> anyhow::Result<()> {
-    let fault = refusal.fault();
-    println!(rt; "fault {} {} {}", fault.layer, fault.number, fault.detail)?;
+    println!(rt; "{}", Fault::from(refusal))?;
     Ok(())
 }
 

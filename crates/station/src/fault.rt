@@ -4,8 +4,7 @@ ghost use Rattle.station.specs.Faults.{station_fault};
 ghost use Rattle.station.specs.declared.fault.StationFault.TheVariants.{Lacking, TooMany, ShortBuffer};
 
 use faults::Fault;
-use histogram::counting::Overfull;
-use histogram::removing::Lacking;
+use histogram::tally::{Lacking, Overfull};
 use painting::ShortBuffer;
 
 #[derive(Clone, Copy, PartialEq, Eq, Debug)]

@@ -1,5 +1,4 @@
 use Rattle.std.proofs.Common.{sym, ◌∙◌}
-use Rattle.histogram.specs.Tallies.{counts_of}
 use Rattle.station.specs.declared.fault.StationFault.TheVariants.{Lacking}
 use Rattle.station.specs.States.{account_of}
 use Rattle.station.proofs.Refusals.{refused-by}
@@ -15,11 +14,11 @@ pub returns-in_err-remove-clause-outcome : goal.returns-in_err-remove-clause-out
 returns-in_err-remove-clause-outcome g c =
     let a = account_of c.args.self.now in
     let v = c.in_err-remove.field-0.0.level in
-    refused-by a (counts_of c.remove.new.self) (Lacking v) c.from_residual.result c.from_residual.ensures.1 c.in_err-remove.ensures.after
+    refused-by a c.remove.new.self (Lacking v) c.from_residual.result c.from_residual.ensures.1 c.in_err-remove.ensures.after
     ∙ lifted-lacking a (g.P.Picture.shown c.args.picture.now) (g.met.P.Picture.sound c.args.picture.now) c.of_picture-less.result.counts c.of_picture-less.ensures
     v (λ z. c.if-total-eq0.false (c.total.ensures ∙ z)) c.in_err-remove.ensures.answer
 
 pub returns-in_ok-remove-clause-outcome : goal.returns-in_ok-remove-clause-outcome
 returns-in_ok-remove-clause-outcome g c =
     lifted-done (account_of c.args.self.now) (g.P.Picture.shown c.args.picture.now) (g.met.P.Picture.sound c.args.picture.now) c.of_picture-less.result.counts c.of_picture-less.ensures
-    (counts_of c.remove.new.self) (λ z. c.if-total-eq0.false (c.total.ensures ∙ z)) c.in_ok-remove.ensures.answer c.in_ok-remove.ensures.after
+    c.remove.new.self (λ z. c.if-total-eq0.false (c.total.ensures ∙ z)) c.in_ok-remove.ensures.answer c.in_ok-remove.ensures.after
