@@ -49,14 +49,6 @@ impl Model for Tally {
     ghost inverse_ok = { λ t ok i. record { histogram = t.histogram; total = ok.adds i } };
 }
 
-// How many pixels a picture has.
-fn size_of<P: Picture>(picture: &P) -> usize
-    ensures is { result ≡ size (P.Picture.shown picture.now) }
-    ensures few { result ≤ 16777216 }
-{
-    picture.columns() * picture.rows()
-}
-
 impl Tally {
     // No pixel in hand.
     pub fn new() -> Tally
@@ -72,7 +64,7 @@ impl Tally {
     pub fn of_picture<P: Picture>(picture: &P) -> Option<Tally>
         ensures { result ≡ (if leb (size (P.Picture.shown picture.now)) 65536 then Some (histogram_of (P.Picture.shown picture.now).levels) else None) }
     {
-        let size = size_of(picture);
+        let size = picture.size();
         if size > MOST {
             return None;
         }

@@ -24,7 +24,7 @@ pub fn paint<P: Picture>(set: &CutSet, picture: &P, buffer: &mut [u8]) -> Result
     ensures after { buffer.new ≡ (if is_ok result then painted_over (bands_of set.now) (P.Picture.shown picture.now) buffer.old else buffer.old) }
     ensures change { (d : ℕ → ℕ → ℕ) → is_ok result ≡ true → changed d (P.Picture.shown picture.now).levels (take (size (P.Picture.shown picture.now)) buffer.new) ≡ change_of d (bands_of set.now) (histogram_of (P.Picture.shown picture.now).levels) }
 {
-    let needed = picture.columns() * picture.rows();
+    let needed = picture.size();
     if buffer.len() < needed {
         return Err(ShortBuffer { needed });
     }

@@ -2,7 +2,7 @@
 #![tactic(auto)]
 
 ghost use Rattle.std.specs.Prelude.{◌≡◌};
-ghost use Rattle.pictures.specs.Raster.{Raster, Sound, level_at};
+ghost use Rattle.pictures.specs.Raster.{Raster, Sound, level_at, size};
 
 mod bytes;
 mod either;
@@ -35,6 +35,13 @@ pub trait Picture {
 
     // The law of pictures: what each make means is one.
     ghost sound: { (p : Self) → Sound (shown p) };
+
+    // How many pixels there are.
+    final fn size(&self) -> usize
+        ensures { result ≡ size (shown self.now) }
+    {
+        self.columns() * self.rows()
+    }
 }
 
 #[cfg(test)]

@@ -11,6 +11,6 @@ invariant_of-result g c =
     let e = c.of_picture.ensures in
     record {
       long = ap length e ∙ each_long (count (g.P.Picture.shown p).levels);
-      adds = ap pixels e ∙ pixels-of (g.P.Picture.shown p) (g.met.P.Picture.sound p) ∙ sym c.size_of-size.ensures.is;
+      adds = ap pixels e ∙ pixels-of (g.P.Picture.shown p) (g.met.P.Picture.sound p) ∙ sym c.size-size.ensures;
       few = omega arith;
     }
