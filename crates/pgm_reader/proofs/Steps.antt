@@ -7,8 +7,8 @@ use Rattle.pgm_reader.specs.declared.header.Field.{Field}
 use Rattle.pgm_reader.specs.declared.header.Field.TheVariants.{Columns, Rows, Maxval}
 use Rattle.pgm_reader.specs.declared.header.Stage.{Stage}
 use Rattle.pgm_reader.specs.declared.header.Stage.TheVariants.{Opened, Gap, Digits}
-use Rattle.pgm_reader.specs.declared.header.Shape.{Shape}
 use Rattle.pgm_reader.specs.declared.header.HeaderMachine.{HeaderMachine}
+use Rattle.pgm_reader.specs.declared.header.Numbers.{Numbers}
 use Rattle.pgm_reader.specs.Format.{white, digit, run, value_from, NumberRule, closed, digits_on, gap_at, number_at, shape_of}
 use Rattle.pgm_reader.specs.Machine.{kind_of, largest_of, rule_of, on_field, on_stage, left, answered, Steps, Closes}
 use Rattle.pgm_reader.proofs.Numbers.{white-no-digit}
@@ -86,15 +86,15 @@ on-digit m s start value p b d v bs e k sum is =
     (digits-digit _ value start p b bs h.1 ∙ digits-saturated rule 18446744073709551615 _ start (p + 1) bs (omega arith) ∙ ap (λ x. digits_on rule x start (p + 1) bs) same)
     ∙ ap (λ s. on_stage m.field s (p + 1) bs) (sym is)
 
-pub on-closed : (m m' : HeaderMachine) (start value p b : ℕ) (answer : Result (Option Shape) ReadFault) → m.stage ≡ Digits start value → kind_of b ≡ White → Closes m m' p start value answer → Steps m m' p b answer
+pub on-closed : (m m' : HeaderMachine) (start value p b : ℕ) (answer : Result (Option Numbers) ReadFault) → m.stage ≡ Digits start value → kind_of b ≡ White → Closes m m' start value answer → Steps m m' p b answer
 on-closed m m' start value p b answer e k h =
-    λ bs. ap (λ s. on_stage m.field s p (b ∷ bs)) e ∙ ap (on_field m.field) (digits-white _ value start p b bs (white-no-digit b (white-is b k))) ∙ h b bs (white-is b k)
+    λ bs. ap (λ s. on_stage m.field s p (b ∷ bs)) e ∙ ap (on_field m.field) (digits-white _ value start p b bs (white-no-digit b (white-is b k))) ∙ h p b bs (white-is b k)
 
 -- the loop at place i + 2 of the file: what the header will be
 abbrev pub Reached : List ℕ → ℕ → HeaderMachine → Type 0
 Reached rest i m = left m (i + 2) (drop i rest) ≡ shape_of rest
 
 -- one turn
-pub turned : (m m' : HeaderMachine) (answer : Result (Option Shape) ReadFault) (i : ℕ) (rest : List ℕ) → i < length rest → Reached rest i m → Steps m m' (i + 2) (get_or rest i 0) answer → answered m' answer (i + 1 + 2) (drop (i + 1) rest) ≡ shape_of rest
+pub turned : (m m' : HeaderMachine) (answer : Result (Option Numbers) ReadFault) (i : ℕ) (rest : List ℕ) → i < length rest → Reached rest i m → Steps m m' (i + 2) (get_or rest i 0) answer → answered m' answer (i + 1 + 2) (drop (i + 1) rest) ≡ shape_of rest
 turned m m' answer i rest h r on =
     ap (λ p. answered m' answer p (drop (i + 1) rest)) (omega arith) ∙ sym (on (drop (i + 1) rest)) ∙ sym (at_drop_more (left m (i + 2)) rest i 0 h) ∙ r

@@ -8,10 +8,11 @@ use Rattle.pgm_reader.specs.declared.header.Field.{Field}
 use Rattle.pgm_reader.specs.declared.header.Field.TheVariants.{Columns, Rows, Maxval}
 use Rattle.pgm_reader.specs.declared.header.Stage.{Stage}
 use Rattle.pgm_reader.specs.declared.header.Stage.TheVariants.{Opened, Gap, Digits}
+use Rattle.pgm_reader.specs.declared.header.Numbers.{Numbers}
 use Rattle.pgm_reader.specs.declared.header.Shape.{Shape}
 use Rattle.pgm_reader.specs.declared.header.HeaderMachine.{HeaderMachine}
 use Rattle.pgm_reader.specs.Faults.{read_fault}
-use Rattle.pgm_reader.specs.Format.{white, digit, NumberRule, Found, closed, digits_on, gap_at, number_at, header_rule, to_maxval, to_rows, to_columns}
+use Rattle.pgm_reader.specs.Format.{white, digit, NumberRule, Found, closed, digits_on, gap_at, number_at, header_rule, shape, to_maxval, to_rows, to_columns}
 
 abbrev pub kind_of : ℕ → Kind
 kind_of b = cond (white b) White (cond (digit b) (Digit (b - 48)) Other)
@@ -41,19 +42,19 @@ abbrev pub left : HeaderMachine → ℕ → List ℕ → Result Shape Fault
 left m p bs = on_stage m.field m.stage p bs
 
 -- The same behind an answer of the machine: it goes on, or has the header, or ended the reading.
-abbrev pub answered : HeaderMachine → Result (Option Shape) ReadFault → ℕ → List ℕ → Result Shape Fault
+abbrev pub answered : HeaderMachine → Result (Option Numbers) ReadFault → ℕ → List ℕ → Result Shape Fault
 answered m (Ok None) p bs = left m p bs
-answered m (Ok (Some s)) p bs = Ok s
+answered m (Ok (Some n)) p bs = Ok (shape n.columns n.rows n.maxval p)
 answered m (Err f) p bs = Err (read_fault f)
 
 -- The byte b at place p took the machine from m to m', with this answer.
-abbrev pub Steps : HeaderMachine → HeaderMachine → ℕ → ℕ → Result (Option Shape) ReadFault → Type 0
+abbrev pub Steps : HeaderMachine → HeaderMachine → ℕ → ℕ → Result (Option Numbers) ReadFault → Type 0
 Steps m m' p b answer = (bs : List ℕ) → left m p (b ∷ bs) ≡ answered m' answer (p + 1) bs
 
--- The white byte at place p, behind a number of this start and value, took the machine from m to m', with this answer.
-abbrev pub Closes : HeaderMachine → HeaderMachine → ℕ → ℕ → ℕ → Result (Option Shape) ReadFault → Type 0
-Closes m m' p start value answer =
-    (b : ℕ) (bs : List ℕ) → white b ≡ true → on_field m.field (closed (rule_of m.field) value start p (b ∷ bs)) ≡ answered m' answer (p + 1) bs
+-- The white byte behind a number of this start and value took the machine from m to m', with this answer.
+abbrev pub Closes : HeaderMachine → HeaderMachine → ℕ → ℕ → Result (Option Numbers) ReadFault → Type 0
+Closes m m' start value answer =
+    (p b : ℕ) (bs : List ℕ) → white b ≡ true → on_field m.field (closed (rule_of m.field) value start p (b ∷ bs)) ≡ answered m' answer (p + 1) bs
 
 -- The file bs starts with `P5`, and goes on with rest.
 pub record Behind (bs rest : List ℕ) : Type 0 where

@@ -1,5 +1,5 @@
 // The header of a binary grey map, read one byte at a time.
-ghost use Rattle.std.specs.Prelude.{◌≡◌, ◌+◌, ◌<◌, ◌^◌, ℕ, List};
+ghost use Rattle.std.specs.Prelude.{◌≡◌, ℕ, List};
 ghost use Rattle.faults.specs.Faults.{told};
 ghost use Rattle.pgm_reader.specs.Faults.{read_fault};
 ghost use Rattle.pgm_reader.specs.Format.{shape_of};
@@ -31,7 +31,15 @@ pub(crate) enum Stage {
     Digits { start: usize, value: usize },
 }
 
-// The three numbers of a header, and the place of the first sample.
+// The three numbers of a header.
+#[derive(Clone, Copy)]
+pub(crate) struct Numbers {
+    columns: usize,
+    rows: usize,
+    maxval: u8,
+}
+
+// The same, and the place of the first sample.
 #[derive(Clone, Copy)]
 pub(crate) struct Shape {
     pub(crate) columns: usize,
@@ -80,10 +88,9 @@ impl HeaderMachine {
         }
     }
 
-    // The white byte at `at`, behind a number: keeps the number, or refuses it. Behind the maxval the header is whole.
-    fn close(&mut self, at: usize, start: usize, value: usize) -> Result<Option<Shape>, ReadFault>
-        requires { at + 1 < 2 ^ 64 }
-        ensures { Closes self.old self.new at start value result }
+    // The white byte behind a number: keeps the number, or refuses it. Behind the maxval the header is whole.
+    fn close(&mut self, start: usize, value: usize) -> Result<Option<Numbers>, ReadFault>
+        ensures { Closes self.old self.new start value result }
     {
         if value < 1 || value > self.field.largest() {
             return Err(ReadFault::OutOfRange(start));
@@ -96,20 +103,18 @@ impl HeaderMachine {
                 rows: value,
             },
             Field::Maxval { columns, rows } => {
-                return Ok(Some(Shape {
+                return Ok(Some(Numbers {
                     columns,
                     rows,
                     maxval: value as u8,
-                    first: at + 1,
                 }));
             }
         };
         Ok(None)
     }
 
-    // The next byte of the header, at its place in the file; the header, if it ends there.
-    fn step(&mut self, at: usize, byte: u8) -> Result<Option<Shape>, ReadFault>
-        requires { at + 1 < 2 ^ 64 }
+    // The next byte of the header, at its place in the file; the header's numbers, if it ends there.
+    fn step(&mut self, at: usize, byte: u8) -> Result<Option<Numbers>, ReadFault>
         ensures { Steps self.old self.new at byte result }
     {
         self.stage = match (self.stage, Kind::from(byte)) {
@@ -124,7 +129,7 @@ impl HeaderMachine {
                 start,
                 value: value.saturating_mul(10).saturating_add(usize::from(d)),
             },
-            (Stage::Digits { start, value }, Kind::White) => return self.close(at, start, value),
+            (Stage::Digits { start, value }, Kind::White) => return self.close(start, value),
             _ => return Err(ReadFault::Misplaced(at)),
         };
         Ok(None)
@@ -137,8 +142,13 @@ pub(crate) fn read_shape(rest: &[u8]) -> Result<Shape, ReadFault>
 {
     let mut machine = HeaderMachine::new();
     for (i, byte) in rest.iter().enumerate() {
-        if let Some(shape) = machine.step(i + 2, *byte)? {
-            return Ok(shape);
+        if let Some(numbers) = machine.step(i + 2, *byte)? {
+            return Ok(Shape {
+                columns: numbers.columns,
+                rows: numbers.rows,
+                maxval: numbers.maxval,
+                first: i + 3,
+            });
         }
     }
     Err(ReadFault::Misplaced(rest.len() + 2))
