@@ -77,24 +77,15 @@ impl Pile {
                 EitherPicture::Second(DosePicture::new(samples.as_slice(), self.columns))
             }
         };
-        under_three(bench, call, &base, self.layers.as_slice())
+        match self.layers.as_slice() {
+            [] => bench.answer(call, &base),
+            [low, above @ ..] => under_two(bench, call, &layered(&base, *low), above),
+        }
     }
 }
 
-// Makes a call with a picture under at most one layer, under two and under three.
-// Each depth is a type, so a function: a cycle of calls that makes a dyn Picture gets no proof.
-fn under_one<P: Picture>(
-    bench: &mut Bench<'_>,
-    call: Call,
-    below: &P,
-    layers: &[Layer],
-) -> anyhow::Result<()> {
-    match layers {
-        [] => bench.answer(call, below),
-        [low, ..] => bench.answer(call, &layered(below, *low)),
-    }
-}
-
+// Makes a call with a picture under at most two layers. Not one function for all depths: that has too many types
+// for the check, and a cycle of calls that makes a dyn Picture gets no proof.
 fn under_two<P: Picture>(
     bench: &mut Bench<'_>,
     call: Call,
@@ -103,18 +94,7 @@ fn under_two<P: Picture>(
 ) -> anyhow::Result<()> {
     match layers {
         [] => bench.answer(call, below),
-        [low, above @ ..] => under_one(bench, call, &layered(below, *low), above),
-    }
-}
-
-fn under_three<P: Picture>(
-    bench: &mut Bench<'_>,
-    call: Call,
-    below: &P,
-    layers: &[Layer],
-) -> anyhow::Result<()> {
-    match layers {
-        [] => bench.answer(call, below),
-        [low, above @ ..] => under_two(bench, call, &layered(below, *low), above),
+        [low] => bench.answer(call, &layered(below, *low)),
+        [low, high, ..] => bench.answer(call, &layered(&layered(below, *low), *high)),
     }
 }
