@@ -3,12 +3,13 @@ use Rattle.std.proofs.Common.{◌≡◌, ℕ, zero, suc, ◌+◌, ◌-◌, ◌*�
 use Rattle.std.specs.List.{range_with_len}
 use Rattle.std.proofs.lemmas.Bool.{cases_lt, cases_order, cases_Bool, ltb-true, ltb-false, cond-true, cond-false}
 use Rattle.histogram.specs.Counts.{occupied, lowest, highest}
-use Rattle.histogram.specs.Totals.{sum_of, one, level, pixels}
-use Rattle.histogram.proofs.Laws.{sum-suc}
-use Rattle.otsu.specs.Otsu.{Otsu, n0, n1, s0, s1, top, bottom, above, first_largest_of, otsu_level}
+use Rattle.histogram.specs.Totals.{sum_of, one, level}
+use Rattle.histogram.proofs.Laws.{sum-suc, sum-join, sum_one, level-le, room}
+use Rattle.otsu.specs.Otsu.{Otsu, top, bottom, above, first_largest_of, otsu_level}
 use Rattle.otsu.specs.Search.{Range}
+use Rattle.otsu.specs.declared.Classes.{Classes}
 use Rattle.otsu.proofs.Ratios.{through-lt, through-le}
-use Rattle.otsu.proofs.Classes.{classes, range, low_sum, bottom-pos}
+use Rattle.otsu.proofs.Sizes.{range, bottom-pos}
 
 up_to : (j k : ℕ) → j < suc k → (j < k) ⊎ (j ≡ k)
 up_to j k h = elim (cases_lt j k) [ inl l ↦ inl l | inr g ↦ inr (omega arith) ]
@@ -96,55 +97,47 @@ otsu-level h l =
     let e : lo + suc n ≡ highest h = omega (arith, r.apart) in
     subst (λ z. Otsu h lo z (otsu_level h)) e (first-largest h lo (highest h) r n lo (le_refl lo) (omega (arith, e)))
 
--- ---- for the loop: n and s are the count and the level sum of all pixels, x and y those up to k
-pub record Split (h : List ℕ) (k n s x y : ℕ) : Type 0 where
-  pub count : x ≡ n0 h k
-  pub sum : y ≡ s0 h k
-  pub high : n - x ≡ n1 h k
-  pub high_sum : s - y ≡ s1 h k
-  pub low : x ≤ n
-  pub low_sum : y ≤ s
-  pub small : y ≤ 255 * 65536
-  pub fits : (0 < x) × ((0 < n - x) × ((x + (n - x) ≤ 65536) × ((y ≤ 255 * x) × (s - y ≤ 255 * (n - x)))))
+-- ---- for the loop: the classes of the levels below z and from z on
+pub record Parted (h : List ℕ) (z : ℕ) (c : Classes) : Type 0 where
+  pub count0 : c.n0 ≡ sum_of one h 0 z
+  pub sum0 : c.s0 ≡ sum_of level h 0 z
+  pub count1 : c.n1 ≡ sum_of one h z 256
+  pub sum1 : c.s1 ≡ sum_of level h z 256
 
-module _ (h : List ℕ) (lo up n s : ℕ) (r : Range h lo up) (all : n ≡ pixels h) (few : n ≤ 65536) (whole : s ≡ sum_of level h 0 256) where
-  split : (k x y : ℕ) → lo ≤ k → k < up → x ≡ n0 h k → y ≡ s0 h k → Split h k n s x y
-  split k x y a b i j =
-      let c = classes h lo up k r a b in
-      let e = c.all in
-      let f = c.sums in
-      let l = c.some-low in
-      let m = c.some-high in
-      let p = c.rate-low in
-      let q = c.rate-high in
-      record {
-        count = i;
-        sum = j;
-        high = omega arith;
-        high_sum = omega arith;
-        low = omega arith;
-        low_sum = omega arith;
-        small = omega arith;
-        fits = (omega arith, (omega arith, (omega arith, (omega arith, omega arith))));
-      }
+-- Of the n pixels from the level k on, of the level sum s, v are of the level k, and some are above it.
+pub record Leaves (k n s v : ℕ) : Type 0 where
+  pub some : v < n
+  pub among : v * k ≤ s
+  pub dim : s - v * k ≤ 255 * (n - v)
 
-  -- the lowest level
-  pub split-first : (x : ℕ) → x ≡ get_or h lo 0 → Split h lo n s x (x * lo)
-  split-first x e =
-      split lo x (x * lo) (le_refl lo) r.apart (e ∙ sym r.none_below) (ap (λ (m : ℕ). m * lo) e ∙ sym (low_sum h lo up r))
+module _ (h : List ℕ) (lo up : ℕ) (r : Range h lo up) (k v : ℕ) (c : Classes) (under : k < up) (here : v ≡ get_or h k 0) (p : Parted h k c) where
+  -- the level, and those above it
+  counts : c.n1 ≡ v + sum_of one h (suc k) 256
+  counts = omega (arith, r.level, p.count1, here, sum-join one h k (suc k) 256 (omega arith) (omega (arith, r.level)), sum_one one h k, mul-one (get_or h k 0))
 
-  -- one level more; here are its pixels
-  pub split-next : (k x y here : ℕ) → lo ≤ k → k < up → x ≡ sum_of one h 0 k → y ≡ sum_of level h 0 k → here ≡ get_or h k 0 → Split h k n s (x + here) (y + here * k)
-  split-next k x y here a b i j e =
-      split k (x + here) (y + here * k) a b
-      (omega (arith, i, e, sum-suc one h 0 k (omega arith), mul-one (get_or h k 0)))
-      (omega (arith, j, ap (λ (m : ℕ). m * k) e, sum-suc level h 0 k (omega arith)))
+  sums : c.s1 ≡ v * k + sum_of level h (suc k) 256
+  sums = omega (arith, r.level, p.sum1, ap (λ (n : ℕ). n * k) here, sum-join level h k (suc k) 256 (omega arith) (omega (arith, r.level)), sum_one level h k)
 
-pub split-top : (h : List ℕ) (k n s x y num : ℕ) → Split h k n s x y → num ≡ y * y * (n - x) + (s - y) * (s - y) * x → num ≡ top h k
-split-top h k n s x y num c f = let u = c.high in let v = c.high_sum in let d = c.count in let e = c.sum in cc
+  pub raise-fits : Leaves k c.n1 c.s1 v
+  raise-fits = record {
+    some = omega (arith, counts, r.at_up, r.level, level-le h (suc k) 256 up (omega arith) (omega (arith, r.level)));
+    among = omega (arith, sums);
+    dim = omega (arith, counts, sums, (room h (suc k) 256 (omega arith)).dim);
+  }
 
-pub split-bottom : (h : List ℕ) (k n s x y den : ℕ) → Split h k n s x y → den ≡ x * (n - x) → den ≡ bottom h k
-split-bottom h k n s x y den c f = let u = c.high in let d = c.count in cc
+  pub parted-next : (d : Classes) → d.n0 ≡ c.n0 + v → d.s0 ≡ c.s0 + v * k → d.n1 ≡ c.n1 - v → d.s1 ≡ c.s1 - v * k → Parted h (suc k) d
+  parted-next d a b e f = record {
+    count0 = omega (arith, a, p.count0, here, sum-suc one h 0 k (omega arith), mul-one (get_or h k 0));
+    sum0 = omega (arith, b, p.sum0, ap (λ (n : ℕ). n * k) here, sum-suc level h 0 k (omega arith));
+    count1 = omega (arith, e, counts);
+    sum1 = omega (arith, f, sums);
+  }
+
+pub top-is : (h : List ℕ) (k num : ℕ) (c : Classes) → Parted h (suc k) c → num ≡ c.s0 * c.s0 * c.n1 + c.s1 * c.s1 * c.n0 → num ≡ top h k
+top-is h k num c p f = let a = p.count0 in let b = p.sum0 in let d = p.count1 in let e = p.sum1 in cc
+
+pub bottom-is : (h : List ℕ) (k den : ℕ) (c : Classes) → Parted h (suc k) c → den ≡ c.n0 * c.n1 → den ≡ bottom h k
+bottom-is h k den c p f = let a = p.count0 in let d = p.count1 in cc
 
 pub step-takes : (h : List ℕ) (lo up k b mn md nn nd : ℕ) → Range h lo up → lo < k → k < up → Otsu h lo k b → mn ≡ top h b → md ≡ bottom h b → nn ≡ top h k → nd ≡ bottom h k
     → ltb (mn * nd) (nn * md) ≡ true → Otsu h lo (k + 1) k

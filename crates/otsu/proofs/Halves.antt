@@ -9,7 +9,7 @@ use Rattle.histogram.proofs.Chosen.{some-unless}
 use Rattle.cut_sets.specs.declared.band.Band.{Band}
 use Rattle.cut_sets.specs.Bands.{no_band, mean_band_of, Inside, Rising, Cuts}
 use Rattle.otsu.specs.Otsu.{otsu_level}
-use Rattle.otsu.proofs.Classes.{range}
+use Rattle.otsu.proofs.Sizes.{range}
 use Rattle.otsu.proofs.Choice.{otsu-level}
 
 -- What an answered threshold says.

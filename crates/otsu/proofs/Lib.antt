@@ -1,4 +1,4 @@
 pub mod Ratios
-pub mod Classes
+pub mod Sizes
 pub mod Choice
 pub mod Halves

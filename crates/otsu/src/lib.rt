@@ -1,11 +1,10 @@
 // Otsu's threshold, exactly.
 #![tactic(auto)]
 
-ghost use Rattle.std.specs.Prelude.{◌≡◌, ◌+◌, ◌*◌, ◌^◌, ◌<◌, ◌≤◌, ltb, length, IfSome, if◌then◌else◌, Some, None, nat_lt};
+ghost use Rattle.std.specs.Prelude.{◌≡◌, ◌+◌, ◌-◌, ◌*◌, ◌^◌, ◌<◌, ◌≤◌, ltb, length, IfSome, if◌then◌else◌, Some, None, nat_lt};
 ghost use Rattle.std.specs.Option.{option_map};
 ghost use Rattle.histogram.specs.Counts.{occupied, lowest, highest};
-ghost use Rattle.histogram.specs.Totals.{pixels, sum_of, level};
-ghost use Rattle.histogram.specs.Tallies.{counts_of};
+ghost use Rattle.histogram.specs.Totals.{pixels};
 ghost use Rattle.cut_sets.specs.Sets.{bands_of};
 ghost use Rattle.otsu.specs.Otsu.{Otsu, otsu_level, otsu_bands};
 ghost use Rattle.otsu.specs.Search.{Range};
@@ -13,20 +12,22 @@ ghost use Rattle.otsu.specs.Search.{Range};
 use cut_sets::band::mean_band;
 use cut_sets::cut_set::CutSet;
 use cut_sets::table::BandTable;
-use histogram::histogram::Histogram;
+use histogram::histogram::Extent;
 use histogram::tally::Tally;
 
 // A fraction of whole numbers.
+// No `Ord`: its `Eq` would have to say that 1/2 is 2/4, and a single `<` is all that the search asks.
 #[derive(Clone, Copy)]
 struct Ratio {
     num: u64,
     den: u64,
+    ghost positive: { 0 < den },
+    ghost small: { den ≤ 2 ^ 30 },
 }
 
 impl Ratio {
     // Whether this is less than another: whole parts first, then the cross products of the remainders, so that 64 bits do.
     fn below(self, other: Ratio) -> bool
-        requires { (0 < self.den) × ((self.den ≤ 2 ^ 30) × ((0 < other.den) × (other.den ≤ 2 ^ 30))) }
         ensures { result ≡ nat_lt (self.num * other.den) (other.num * self.den) }
     {
         let whole = self.num / self.den;
@@ -39,44 +40,85 @@ impl Ratio {
     }
 }
 
-// The criterion of two classes, by their counts and level sums.
-fn criterion(n0: u64, s0: u64, n1: u64, s1: u64) -> Ratio
-    requires { (0 < n0) × ((0 < n1) × ((n0 + n1 ≤ 65536) × ((s0 ≤ 255 * n0) × (s1 ≤ 255 * n1)))) }
-    ensures num { result.num ≡ s0 * s0 * n1 + s1 * s1 * n0 }
-    ensures den { result.den ≡ n0 * n1 }
-    ensures small { (0 < result.den) × (result.den ≤ 2 ^ 30) }
-{
-    Ratio {
-        num: s0 * s0 * n1 + s1 * s1 * n0,
-        den: n0 * n1,
+// The two classes of a threshold: the pixels up to it and those above, how many and the sum of their levels.
+#[derive(Clone, Copy)]
+struct Classes {
+    n0: u64,
+    s0: u64,
+    n1: u64,
+    s1: u64,
+    ghost some_low: { 0 < n0 },
+    ghost some_high: { 0 < n1 },
+    ghost few: { n0 + n1 ≤ 65536 },
+    ghost dim_low: { s0 ≤ 255 * n0 },
+    ghost dim_high: { s1 ≤ 255 * n1 },
+}
+
+impl Classes {
+    ghost use Rattle.otsu.specs.Otsu.{n0, s0, n1, s1};
+
+    // The classes of a threshold that has pixels on both sides.
+    fn new(tally: &Tally, k: u8) -> Classes
+        requires level { k < 255 }
+        requires some_low { 0 < n0 tally.now k }
+        requires some_high { 0 < n1 tally.now k }
+        requires few { pixels tally.now ≤ 65536 }
+        ensures low { (result.n0 ≡ n0 tally.now k) × (result.s0 ≡ s0 tally.now k) }
+        ensures high { (result.n1 ≡ n1 tally.now k) × (result.s1 ≡ s1 tally.now k) }
+    {
+        let low = tally.sums(0, k);
+        let high = tally.sums(k + 1, 255);
+        Classes {
+            n0: low.count() as u64,
+            s0: low.levels() as u64,
+            n1: high.count() as u64,
+            s1: high.levels() as u64,
+        }
+    }
+
+    // The pixels of a level, some but not all of those above, go to the lower class.
+    fn raised(self, level: u8, count: u64) -> Classes
+        requires some { count < self.n1 }
+        requires among { count * level ≤ self.s1 }
+        requires dim { self.s1 - count * level ≤ 255 * (self.n1 - count) }
+        ensures low { (result.n0 ≡ self.n0 + count) × (result.s0 ≡ self.s0 + count * level) }
+        ensures high { (result.n1 ≡ self.n1 - count) × (result.s1 ≡ self.s1 - count * level) }
+    {
+        let sum = count * level as u64;
+        Classes {
+            n0: self.n0 + count,
+            s0: self.s0 + sum,
+            n1: self.n1 - count,
+            s1: self.s1 - sum,
+        }
+    }
+
+    fn criterion(self) -> Ratio
+        ensures num { result.num ≡ self.s0 * self.s0 * self.n1 + self.s1 * self.s1 * self.n0 }
+        ensures den { result.den ≡ self.n0 * self.n1 }
+    {
+        Ratio {
+            num: self.s0 * self.s0 * self.n1 + self.s1 * self.s1 * self.n0,
+            den: self.n0 * self.n1,
+        }
     }
 }
 
-// Whether a later threshold takes the place of the best so far: only where its criterion is larger, so that the first of equals stays.
-fn replaces(next: Ratio, most: Ratio) -> bool
-    requires { (0 < next.den) × ((next.den ≤ 2 ^ 30) × ((0 < most.den) × (most.den ≤ 2 ^ 30))) }
-    ensures { result ≡ nat_lt (most.num * next.den) (next.num * most.den) }
+// The first level from the lowest to below the highest whose criterion is largest.
+fn first_largest(tally: &Tally, extent: Extent) -> u8
+    requires { Range tally.now extent.lowest extent.highest }
+    ensures { Otsu tally.now extent.lowest extent.highest result }
 {
-    most.below(next)
-}
-
-// The first level from lowest to below highest whose criterion is largest; n and s are the count and the level sum of all pixels.
-fn first_largest(histogram: &Histogram, lowest: u8, highest: u8, n: u64, s: u64) -> u8
-    requires range { Range histogram.now.counts lowest highest }
-    requires count { (n ≡ pixels histogram.now.counts) × (n ≤ 65536) }
-    requires sum { s ≡ sum_of level histogram.now.counts 0 256 }
-    ensures { Otsu histogram.now.counts lowest highest result }
-{
-    let mut n0 = histogram.count(lowest) as u64;
-    let mut s0 = n0 * lowest as u64;
-    let mut best = lowest;
-    let mut most = criterion(n0, s0, n - n0, s - s0);
-    for k in lowest + 1..highest {
-        let here = histogram.count(k) as u64;
-        n0 += here;
-        s0 += here * k as u64;
-        let next = criterion(n0, s0, n - n0, s - s0);
-        if replaces(next, most) {
+    let histogram = tally.histogram();
+    let mut classes = Classes::new(tally, extent.lowest);
+    let mut best = extent.lowest;
+    let mut most = classes.criterion();
+    for k in extent.lowest + 1..extent.highest {
+        classes = classes.raised(k, histogram.count(k) as u64);
+        let next = classes.criterion();
+        // Only a larger one takes its place, so that the first of equals stays.
+        let larger = most.below(next);
+        if larger {
             best = k;
             most = next;
         }
@@ -86,27 +128,19 @@ fn first_largest(histogram: &Histogram, lowest: u8, highest: u8, n: u64, s: u64)
 
 // Otsu's threshold of the pixels in hand; none where fewer than two levels are occupied.
 pub fn threshold(tally: &Tally) -> Option<u8>
-    ensures value { result ≡ (if ltb (length (occupied (counts_of tally.now))) 2 then None else Some (otsu_level (counts_of tally.now))) }
-    ensures largest { IfSome result (Otsu (counts_of tally.now) (lowest (counts_of tally.now)) (highest (counts_of tally.now))) }
+    ensures value { result ≡ (if ltb (length (occupied tally.now)) 2 then None else Some (otsu_level tally.now)) }
+    ensures largest { IfSome result (Otsu tally.now (lowest tally.now) (highest tally.now)) }
 {
-    let histogram = tally.histogram();
-    let extent = histogram.extent();
+    let extent = tally.histogram().extent();
     if extent.occupied < 2 {
         return None;
     }
-    let all = tally.sums(0, 255);
-    Some(first_largest(
-        histogram,
-        extent.lowest,
-        extent.highest,
-        all.count() as u64,
-        all.levels() as u64,
-    ))
+    Some(first_largest(tally, extent))
 }
 
 // The Otsu cut of the pixels in hand; none where fewer than two levels are occupied.
 pub fn cut(tally: &Tally) -> Option<CutSet>
-    ensures { option_map bands_of result ≡ (if ltb (length (occupied (counts_of tally.now))) 2 then None else Some (otsu_bands (counts_of tally.now))) }
+    ensures { option_map bands_of result ≡ (if ltb (length (occupied tally.now)) 2 then None else Some (otsu_bands tally.now)) }
 {
     let k = threshold(tally)?;
     let extent = tally.histogram().extent();

@@ -8,6 +8,7 @@ use Rattle.histogram.proofs.Laws.{sum-join, sum-suc, sum-empty, level-le, room}
 use Rattle.histogram.proofs.Spans.{spanned}
 use Rattle.otsu.specs.Otsu.{n0, n1, s0, s1, bottom}
 use Rattle.otsu.specs.Search.{Range}
+use Rattle.otsu.specs.declared.Classes.{Classes}
 
 pub range : (h : List ℕ) → 2 ≤ length (occupied h) → Range h (lowest h) (highest h)
 range h l =
@@ -20,7 +21,7 @@ range h l =
       at_up = s.at_high;
     }
 
-pub record Classes (h : List ℕ) (k : ℕ) : Type 0 where
+pub record Sides (h : List ℕ) (k : ℕ) : Type 0 where
   pub some-low : 0 < n0 h k
   pub some-high : 0 < n1 h k
   pub all : n0 h k + n1 h k ≡ pixels h
@@ -28,7 +29,7 @@ pub record Classes (h : List ℕ) (k : ℕ) : Type 0 where
   pub rate-low : s0 h k ≤ 255 * n0 h k
   pub rate-high : s1 h k ≤ 255 * n1 h k
 
-pub classes : (h : List ℕ) (lo up k : ℕ) → Range h lo up → lo ≤ k → k < up → Classes h k
+pub classes : (h : List ℕ) (lo up k : ℕ) → Range h lo up → lo ≤ k → k < up → Sides h k
 classes h lo up k r a b =
     let u = r.level in
     record {
@@ -42,14 +43,6 @@ classes h lo up k r a b =
 
 pub bottom-pos : (h : List ℕ) (lo up k : ℕ) → Range h lo up → lo ≤ k → k < up → 0 < bottom h k
 bottom-pos h lo up k r a b = let c = classes h lo up k r a b in mul-pos c.some-low c.some-high
-
--- The pixels of the lowest level are all up to it.
-pub low_sum : (h : List ℕ) (lo up : ℕ) → Range h lo up → s0 h lo ≡ get_or h lo 0 * lo
-low_sum h lo up r =
-    let u = r.level in
-    let x = r.apart in
-    let n : sum_of one h 0 lo ≡ 0 = omega (arith, sum-suc one h 0 lo (omega arith), r.none_below, mul-one (get_or h lo 0)) in
-    omega (arith, sum-suc level h 0 lo (omega arith), (room h 0 lo (omega arith)).dim, n)
 
 -- ---- the criterion's size
 amgm : (a d : ℕ) → a + (a + d) ≤ 65536 → a * (a + d) ≤ 2 ^ 30
@@ -85,3 +78,6 @@ top_small n0 s0 n1 s1 h a b =
     let s : n0 * n1 * (n0 + n1) ≡ n0 * n1 * n0 + n0 * n1 * n1 = mul-add (n0 * n1) n0 n1 in
     let m : n0 * n1 * (n0 + n1) ≤ 2 ^ 30 * 65536 = mul-le-mul (product_small n0 n1 h) h in
     omega arith
+
+pub criterion_fits : (c : Classes) → c.s0 * c.s0 * c.n1 + c.s1 * c.s1 * c.n0 < 2 ^ 62
+criterion_fits c = top_small c.n0 c.s0 c.n1 c.s1 c.few c.dim_low c.dim_high
