@@ -106,6 +106,7 @@ impl HeaderMachine {
                 return Ok(Some(Numbers {
                     columns,
                     rows,
+                    // Proved to fit, where a TryFrom would need an error that never comes.
                     maxval: value as u8,
                 }));
             }
