@@ -17,6 +17,7 @@ pub struct Grid<'a, S> {
     pub ghost held: { columns * rows ≤ length samples.now },
 }
 
+// By hand, since a derive refuses ghost fields beside a type parameter.
 impl<'a, S: Copy> Clone for Grid<'a, S> {
     ghost is_clone = { λ s r. r ≡ s };
 
