@@ -76,12 +76,12 @@ impl Tally {
 
     // How many pixels are in hand.
     pub fn total(&self) -> u32
-        ensures value { result ≡ pixels self.now }
-        ensures few { pixels self.now ≤ 65536 }
+        ensures { result ≡ pixels self.now }
     {
         self.total
     }
 
+    // The counts, of at most 65,536 pixels.
     pub fn histogram(&self) -> &Histogram
         ensures counts { result.now.counts ≡ self.now }
         ensures few { pixels self.now ≤ 65536 }
