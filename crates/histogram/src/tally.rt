@@ -84,6 +84,7 @@ impl Tally {
     // The counts, of at most 65,536 pixels.
     pub fn histogram(&self) -> &Histogram
         ensures counts { result.now.counts ≡ self.now }
+        ensures long { length self.now ≡ 256 }
         ensures few { pixels self.now ≤ 65536 }
     {
         &self.histogram
