@@ -63,6 +63,7 @@ impl<'a> DosePicture<'a> {
     }
 
     // The place of the first clipped sample, row by row; none where no sample is clipped.
+    // Nested loops, left by a label: so the place is at hand, and no number of a sample has to be taken apart.
     pub fn first_clip(&self) -> Option<Place>
         ensures value { result ≡ first_clip self.now.grid.columns self.now.grid.rows self.now.grid.samples.now }
         ensures words { FirstClip self.now.grid.columns self.now.grid.rows self.now.grid.samples.now result }

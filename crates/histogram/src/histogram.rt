@@ -16,6 +16,7 @@ pub struct Histogram {
 }
 
 // How many levels are occupied, and the lowest and the highest of them; both are 0 where none is.
+// No Option: a refusal tells the count, which may be 0, and a listing the two levels as they are.
 #[derive(Clone, Copy)]
 pub struct Extent {
     pub occupied: usize,

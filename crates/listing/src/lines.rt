@@ -21,7 +21,7 @@ pub(crate) struct TwoClasses {
     high: u8,
 }
 
-// The two classes of the last cut.
+// The two classes of the last cut. Zeros stand for an absent band: only a station that was cut is listed.
 fn two_classes<R: DistanceRule>(station: &Station<R>) -> TwoClasses
     ensures { result ≡ two_classes_of (account_of station.now).cuts }
 {

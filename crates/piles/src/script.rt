@@ -96,7 +96,7 @@ fn doses(heap: Global, given: &[usize]) -> anyhow::Result<Pile> {
     Ok(Pile::new(columns, Samples::Doses(samples)))
 }
 
-// A call by its word.
+// A call by its word, which is text only here.
 fn call_of(word: &str, given: &[usize]) -> anyhow::Result<Call> {
     Ok(match word {
         "show" => Call::Show,

@@ -17,7 +17,8 @@ use histogram::tally::Tally;
 use pictures::Picture;
 use rules::DistanceRule;
 
-// A station holds its distance rule, the pixels in hand and the last cut set.
+// A station holds its distance rule, the pixels in hand and the last cut set. That the rule stays is no part of the
+// account, so each call that changes a station says it for itself.
 #[derive(Drop)]
 pub struct Station<R> {
     rule: R,
