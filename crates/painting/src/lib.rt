@@ -17,7 +17,7 @@ pub use faults::ShortBuffer;
 pub use palette::Palette;
 
 // Writes a byte for each pixel, row by row, at the front of a buffer: the level of the pixel's band.
-// Refused, and nothing written, where the buffer is too short.
+// Refused, and nothing written, where the buffer is too short. Picture and buffer stay two parameters: one is read, the other written.
 // By how much a painting changes a picture, by any distance, depends on the picture's histogram alone.
 pub fn paint<P: Picture>(set: &CutSet, picture: &P, buffer: &mut [u8]) -> Result<(), ShortBuffer>
     ensures answer { result ≡ answer_to (P.Picture.shown picture.now) buffer.old }

@@ -23,7 +23,8 @@ pub struct Header {
 
 // The samples of the file `bytes` behind its header.
 fn read_samples(bytes: &[u8], shape: Shape) -> Result<Header, ReadFault>
-    requires small { (shape.columns ≤ 4096) × (shape.rows ≤ 4096) }
+    requires narrow { shape.columns ≤ 4096 }
+    requires low { shape.rows ≤ 4096 }
     requires inside { shape.first ≤ length bytes.now }
     ensures { told read_fault result ≡ with_samples bytes.now shape }
 {

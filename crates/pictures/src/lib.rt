@@ -29,7 +29,7 @@ pub trait Picture {
     fn rows(&self) -> usize
         ensures { result ≡ (shown self.now).rows };
 
-    // The level at column x of row y; none outside.
+    // The level at column x of row y; none outside. Two numbers and no struct, since loops over rows and columns have them apart.
     fn level(&self, x: usize, y: usize) -> Option<u8>
         ensures { result ≡ level_at (shown self.now) x y };
 

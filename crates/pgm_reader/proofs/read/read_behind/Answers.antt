@@ -20,7 +20,7 @@ returns-in_err-shape c =
 pub read_samples-requires : goal.read_samples-requires
 read_samples-requires c =
     let b = shape-bounds c.args.rest.now c.in_ok-shape.shape (sym c.in_ok-shape.ensures) in
-    record { small = b.0; inside = omega (arith, b.1, behind-length c.args.bytes.now c.args.rest.now c.requires) }
+    record { narrow = b.0.0; low = b.0.1; inside = omega (arith, b.1, behind-length c.args.bytes.now c.args.rest.now c.requires) }
 
 pub returns : goal.returns
 returns c =
