@@ -1,2 +1,3 @@
 mod Pushes
 mod Files
+mod FaultLine

@@ -1,7 +1,7 @@
 -- The listing of a file, and the line of a fault.
 use Rattle.std.specs.Prelude.{ℕ, cond, List, [], ◌∷◌, ◌++◌, length, Ok, Err, codes, Result, nat_lt}
 use Rattle.faults.specs.declared.Fault.{Fault}
-use Rattle.faults.specs.Faults.{fault, and_then}
+use Rattle.faults.specs.Faults.{fault, fault_words, and_then}
 use Rattle.text.specs.Texts.{line, placed}
 use Rattle.pictures.specs.Raster.{Raster, raster}
 use Rattle.rules.specs.Distances.{squares}
@@ -46,9 +46,9 @@ picture_listing p = after_lay (step squares start (lay p))
 abbrev pub file_listing : List ℕ → Result (List ℕ) Fault
 file_listing bs = and_then (image_of bs) (λ h. picture_listing (file_picture bs h))
 
--- The line of a fault.
+-- The line of a fault: its words, and LF.
 abbrev pub fault_line_of : Fault → List ℕ
-fault_line_of f = line (codes "fault") (f.layer ∷ (f.number ∷ (f.detail ∷ [])))
+fault_line_of f = fault_words f ++ (10 ∷ [])
 
 -- What the program prints of a file.
 abbrev pub report_of : Result (List ℕ) Fault → List ℕ
