@@ -27,10 +27,11 @@ def functions(text):
     found = []
     for start in re.finditer(r"\bfn (\w+)", text):
         at, depth, parens = start.end(), 0, 0
-        clauses = []
+        clauses, head_end = [], None
         while at < len(text):
             clause = re.match(r"\n\s*(requires|ensures)\s*(\w+)?\s*\{", text[at:])
             if clause:
+                head_end = head_end or at
                 end = at + clause.end()
                 depth = 1
                 while depth:
@@ -45,7 +46,7 @@ def functions(text):
                 at += 1
         if at == len(text) or text[at] == ";":
             continue
-        head, end, depth = text[start.end():at], at + 1, 1
+        head, end, depth = text[start.end():head_end or at], at + 1, 1
         while depth:
             depth += {"{": 1, "}": -1}.get(text[end], 0)
             end += 1
