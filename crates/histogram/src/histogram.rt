@@ -10,6 +10,7 @@ use pictures::Picture;
 use std::array;
 
 // How many pixels there are of each level.
+// No model: clauses read the one field, which has nothing to keep, and a constant with a model could not be lent.
 #[derive(Clone, Copy)]
 pub struct Histogram {
     pub(crate) counts: [u32; 256],
