@@ -114,7 +114,8 @@ impl Histogram {
         self.counts = array::from_fn(|level| self.counts[level] + more.counts[level]);
     }
 
-    // Level by level, the counts of another histogram off.
+    // Level by level, the counts of another histogram off. A function for this and the one above would take a closure with a
+    // condition of its own, and be longer than both.
     pub(crate) fn subtract(&mut self, less: &Histogram)
         requires { Covers self.old.counts less.now.counts }
         ensures { self.new.counts ≡ removed self.old.counts less.now.counts }
