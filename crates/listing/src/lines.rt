@@ -61,7 +61,7 @@ pub(crate) fn picture_text<P: Picture>(picture: &P) -> Result<Text, StationFault
     Ok(station_text(&station, otsu.sum))
 }
 
-// The line of a fault.
+// The line of a fault. Not by `write!`, which answers a result that no clause promises to be Ok: this call cannot fail.
 pub(crate) fn fault_text(fault: Fault) -> Text
     ensures { result ≡ fault_line_of fault }
 {

@@ -31,7 +31,7 @@ impl From<StationFault> for Fault {
     fn from(refusal: StationFault) -> Fault {
         let (number, detail) = match refusal {
             StationFault::NoCut => (22, 0),
-            StationFault::Lacking(level) => (23, level as usize),
+            StationFault::Lacking(level) => (23, usize::from(level)),
             StationFault::NoPixel => (31, 0),
             StationFault::TooMany => (32, 0),
             StationFault::Empty => (33, 0),
