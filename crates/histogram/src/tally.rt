@@ -76,7 +76,8 @@ impl Tally {
 
     // How many pixels are in hand.
     pub fn total(&self) -> u32
-        ensures { result ≡ pixels self.now }
+        ensures value { result ≡ pixels self.now }
+        ensures few { result ≤ 65536 }
     {
         self.total
     }
@@ -121,7 +122,9 @@ impl Tally {
     pub fn sums(&self, low: u8, high: u8) -> BandSums
         ensures count { result.count ≡ count_of self.now low high }
         ensures levels { result.levels ≡ level_sum self.now low high }
+        ensures few { pixels self.now ≤ 65536 }
     {
+        // A loop, since both sums are made in one go.
         let mut count = 0;
         let mut levels = 0;
         for level in low..=high {

@@ -1,6 +1,6 @@
 use Rattle.std.proofs.Common.{◌≡◌, ℕ, suc, refl, ap, ◌+◌, ◌*◌, ◌≤◌, get_or, sym, ◌∙◌, mul-one, arith, rules}
 use Rattle.std.proofs.lemmas.Nat.{mul-le}
-use Rattle.histogram.specs.Totals.{one, level, count_of, level_sum}
+use Rattle.histogram.specs.Totals.{one, level, count_of, level_sum, pixels}
 use Rattle.histogram.proofs.Laws.{sum-none, sum_more, sum-unbegun, sum-last, count-le, room}
 use Rattle.histogram.proofs.tally.Tally.sums.Goals as goal
 use Rattle.histogram.proofs.tally.Tally.sums.Goals.{Left-loop-level, else-loop-level-test, then-loop-level-test+else-level-high}
@@ -76,4 +76,5 @@ returns c =
     record {
       count = e.0 ∙ ap (λ h. count_of h c.args.low c.args.high) c.self.view_is;
       levels = e.1 ∙ ap (λ h. level_sum h c.args.low c.args.high) c.self.view_is;
+      few = omega (arith, c.self.invariant.adds, c.self.invariant.few, ap pixels c.self.view_is);
     }
