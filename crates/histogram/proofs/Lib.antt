@@ -5,5 +5,5 @@ pub mod Spans
 pub mod Means
 pub mod Chosen
 pub mod Walks
-mod Places
+pub mod Places
 mod Lacks

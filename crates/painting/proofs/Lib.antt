@@ -1,3 +1,2 @@
 mod Rows
-mod Tables
 mod Totals
