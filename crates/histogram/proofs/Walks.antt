@@ -1,6 +1,6 @@
 -- A walk over a picture, row by row, and the histogram of what it has passed.
 use Rattle.std.proofs.Common.{◌≡◌, ℕ, ◌+◌, ◌*◌, ◌<◌, ◌≤◌, cond, eqb, ◌≢◌, List, [], ◌∷◌, ◌++◌, length, get_or, take, set, Some, sym, refl, ap, ◌∙◌, subst, ⊎_elim, add_assoc, mul_comm, zero-mul, arith, length-take}
-use Rattle.std.proofs.lemmas.List.{ext_get_or, length-set, get_or-set_same, get_or-set_other, take_more, take_all}
+use Rattle.std.proofs.lemmas.List.{ext_get_or, length-set, get_or-set_same, get_or-set_other, take_more}
 use Rattle.std.proofs.lemmas.List.Sums.{sum_by_push, count_by-le-length}
 use Rattle.std.proofs.lemmas.Bool.{cases_eq, eq-eqb, ne_eqb, cond-true, cond-false}
 use Rattle.std.proofs.lemmas.Nat.{mul-le, mul-add-lt}
@@ -59,9 +59,6 @@ counted-more p s n x y v e f h m i j =
     j ∙ ap (λ q. set q v (get_or q v 0 + 1)) i ∙ counted-push (take k xs) v a.byte
     ∙ ap histogram_of (ap (λ w. take k xs ++ w ∷ []) a.is ∙ sym (take_more xs k 0 a.within))
     ∙ ap (λ q. histogram_of (take q xs)) (add_assoc (y * n) x 1)
-
-pub counted-all : (p : Raster) → Sound p → (y n : ℕ) → n ≡ p.columns → p.rows ≤ y → y ≤ p.rows → take (y * n) p.levels ≡ p.levels
-counted-all p s y n e h k = take_all (y * n) p.levels (let q = rows-done p s y n e (omega arith) in omega (arith, q))
 
 -- No count passes the number of pixels that a picture can have.
 pub counted-few : (p : Raster) → Sound p → (i v : ℕ) → v < 256 → get_or (histogram_of (take i p.levels)) v 0 ≤ 16777216

@@ -17,7 +17,7 @@ pub struct Histogram {
 }
 
 // How many levels are occupied, and the lowest and the highest of them; both are 0 where none is.
-// No Option: a refusal tells the count, which may be 0, and a listing the two levels as they are.
+// No Option: both levels read 0 without a pixel, which the definitions of LO and UP say too.
 #[derive(Clone, Copy)]
 pub struct Extent {
     pub occupied: usize,
@@ -61,6 +61,7 @@ impl Histogram {
         let mut histogram = Histogram::new();
         let columns = picture.columns();
         let rows = picture.rows();
+        // Loops: after a closure that changes what it borrowed, a proof knows nothing of it.
         for y in 0..rows {
             for x in 0..columns {
                 if let Some(level) = picture.level(x, y) {
@@ -76,14 +77,14 @@ impl Histogram {
         requires { slice_index self.old.counts level + 1 < 2 ^ 32 }
         ensures { self.new.counts ≡ slice_set self.old.counts level (slice_index self.old.counts level + 1) }
     {
-        self.counts[level as usize] += 1;
+        self.counts[usize::from(level)] += 1;
     }
 
     // The pixels of one level.
     pub fn count(&self, level: u8) -> u32
         ensures { result ≡ slice_index self.now.counts level }
     {
-        self.counts[level as usize]
+        self.counts[usize::from(level)]
     }
 
     // How many pixels there are.
