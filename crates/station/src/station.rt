@@ -1,5 +1,5 @@
 // The station and its calls.
-ghost use Rattle.std.specs.Prelude.{◌≡◌, true, List, take, is_ok, Some};
+ghost use Rattle.std.specs.Prelude.{◌≡◌, ◌≤◌, true, List, length, take, is_ok, Some};
 ghost use Rattle.pictures.specs.Raster.{size};
 ghost use Rattle.histogram.specs.Counts.{histogram_of};
 ghost use Rattle.histogram.specs.Totals.{pixels};
@@ -118,14 +118,17 @@ impl<R: DistanceRule> Station<R> {
 
     // The histogram of the pixels in hand.
     pub fn histogram(&self) -> Histogram
-        ensures { result.counts ≡ (account_of self.now).hand }
+        ensures counts { result.counts ≡ (account_of self.now).hand }
+        ensures long { length result.counts ≡ 256 }
+        ensures few { pixels result.counts ≤ 65536 }
     {
         *self.tally.histogram()
     }
 
     // How many pixels are in hand.
     pub fn total(&self) -> u32
-        ensures { result ≡ pixels (account_of self.now).hand }
+        ensures value { result ≡ pixels (account_of self.now).hand }
+        ensures few { result ≤ 65536 }
     {
         self.tally.total()
     }

@@ -23,9 +23,9 @@ returns g c =
     let la : length a ≤ 28 = omega (arith, length-line (codes "pixels") (n ∷ []), length-decimal-u64 n (omega (arith, c.total.type_inv))) in
     let lb : length b ≤ 48 = omega (arith, length-line (codes "range") (lo ∷ (up ∷ [])), length-decimal-u64 lo (omega (arith, c.extent-extent.type_inv)), length-decimal-u64 up (omega (arith, c.extent-extent.type_inv))) in
     let ld : length d ≤ 89 = omega (arith, length-line (codes "otsu") (cut_numbers k s), length-decimal-u64 k.threshold (omega (arith, c.two_classes-threshold.type_inv)), length-decimal-u64 k.low (omega (arith, c.two_classes-threshold.type_inv)), length-decimal-u64 k.high (omega (arith, c.two_classes-threshold.type_inv)), length-decimal-u64 s (omega (arith, c.ranges.sum))) in
-    let x = c.extent-extent.ensures ∙ ap extent_of c.histogram.ensures in
+    let x = c.extent-extent.ensures ∙ ap extent_of c.histogram.ensures.counts in
     three-lines a b d c.new-text.result c.push_line.new.self c.push_line-2.new.self c.push_line-3.new.self
     c.new-text.ensures c.push_line.ensures c.push_line-2.ensures c.push_line-3.ensures (omega arith)
-    ∙ ap (λ m. line (codes "pixels") (m ∷ []) ++ (b ++ d)) c.total.ensures
+    ∙ ap (λ m. line (codes "pixels") (m ∷ []) ++ (b ++ d)) c.total.ensures.value
     ∙ ap (λ e. line (codes "pixels") (pixels h ∷ []) ++ (line (codes "range") (e.lowest ∷ (e.highest ∷ [])) ++ d)) x
     ∙ ap (λ e. line (codes "pixels") (pixels h ∷ []) ++ (line (codes "range") (lowest h ∷ (highest h ∷ [])) ++ line (codes "otsu") (cut_numbers e s))) c.two_classes-threshold.ensures
