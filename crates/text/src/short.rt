@@ -1,5 +1,5 @@
 // The text, what it is put together from, and what is read of it. In clauses it is the list of its bytes.
-ghost use Rattle.std.specs.Prelude.{◌≡◌, ◌≤◌, [], ◌∷◌, ◌++◌, length, decimal};
+ghost use Rattle.std.specs.Prelude.{◌≡◌, ◌≤◌, [], ◌∷◌, ◌++◌, length, decimal, MatchResult};
 ghost use Rattle.text.specs.Texts.{clipped, line, copy_answer, copy_buffer};
 
 use faults::ShortBuffer;
@@ -98,6 +98,7 @@ impl Text {
     pub fn copy_to(&self, out: &mut [u8]) -> Result<usize, ShortBuffer>
         ensures answer { result ≡ copy_answer out.old self.now }
         ensures buffer { out.new ≡ copy_buffer out.old self.now }
+        ensures fits { MatchResult result (λ copied. copied ≤ 256) (λ short. short.needed ≤ 256) }
     {
         let text = self.as_bytes();
         if out.len() < text.len() {
