@@ -5,7 +5,8 @@ ghost use Rattle.text.specs.Texts.{clipped, line, copy_answer, copy_buffer};
 use faults::ShortBuffer;
 use std::marker::Model;
 
-// No heap: the bytes and their number. The bytes behind the text are 0, so the text alone says what the fields are.
+// The text is the first `used` bytes. No String, since a text is `Copy`; no ArrayVec, since the library uses no crate of the kit.
+// The bytes behind the text are 0: `Model` asks that there is one way to hold each text.
 #[derive(Clone, Copy)]
 pub struct Text {
     bytes: [u8; 256],
@@ -51,14 +52,14 @@ impl Text {
     pub fn push_bytes(&mut self, bytes: &[u8])
         ensures { self.new ≡ clipped (self.old ++ bytes.now) }
     {
-        // So that the proof knows that there are at most 256 bytes.
+        // Does nothing, but where a field is read, the proof may use what each text keeps: it has at most 256 bytes.
         let _ = &self.bytes;
         for byte in bytes {
             self.push_byte(*byte);
         }
     }
 
-    // The number's decimal digits, by hand: std's text without a heap, `InlineText`, promises them or dots.
+    // The decimal digits by hand: no clause says that what `write!` answers is Ok, and the library uses no crate of the kit.
     pub fn push_number(&mut self, n: u64)
         ensures { self.new ≡ clipped (self.old ++ decimal n) }
     {
