@@ -13,7 +13,8 @@ use std::fmt;
 use std::num::saturating_f32_to_u8;
 
 // Float samples in the caller's memory, as whole rows.
-// A type of its own beside the byte picture: a trait of samples in `pictures` and f32 are both foreign here.
+// A second picture over a `Grid`, and not one generic picture for both: only its own crate can give a type methods, and `first_clip`
+// is a method of dose pictures alone; nor can f32 get a trait of `pictures` here, where both are foreign.
 #[derive(Clone, Copy)]
 pub struct DosePicture<'a> {
     grid: Grid<'a, f32>,
@@ -42,7 +43,7 @@ fn dose_level(sample: f32) -> u8
     saturating_f32_to_u8(sample)
 }
 
-// The first comparison fails for what is below 0, and for what is not a number.
+// The comparison with 0 fails for what is below 0, and for what is not a number too: hence the `else`, and no `sample < 0.0`.
 fn is_clipped(sample: f32) -> bool
     ensures { result ≡ clips sample }
 {
@@ -51,6 +52,7 @@ fn is_clipped(sample: f32) -> bool
 
 impl<'a> DosePicture<'a> {
     // Never refuses: a column count of 0 or above 4,096 makes a picture of no column and no row.
+    // `⟦..⟧.shown result` is what the picture means, as its `impl Picture` below says.
     pub fn new(samples: &'a [f32], columns: usize) -> Self
         ensures shown { ⟦<DosePicture<'a> as Picture>⟧.shown result ≡ dose_raster columns samples.now }
         ensures columns { result.grid.columns ≡ columns_given columns }

@@ -1,4 +1,4 @@
--- Pictures that are drawn place by place. Every make of picture is one, so that soundness and places are argued once.
+-- Pictures that are drawn place by place. Every kind of picture is one, so that soundness and places are argued once.
 use Rattle.std.specs.Prelude.{◌≡◌, ℕ, ◌+◌, ◌*◌, ◌/◌, ◌%◌, ◌<◌, ◌≤◌, map, length, slice_index}
 use Rattle.std.proofs.Common.{◌∙◌, ⊎_elim, arith}
 use Rattle.std.specs.List.{range_with_len}

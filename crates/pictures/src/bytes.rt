@@ -10,11 +10,13 @@ use crate::grid::Grid;
 #[derive(Clone, Copy)]
 pub struct BytePicture<'a> {
     grid: Grid<'a, u8>,
+    // For the proof of `level`: a `Grid` holds samples of any type, so a proof sees only here that these are at most 255.
     ghost levels: { (i : ℕ) → slice_index grid.samples.now i ≤ 255 },
 }
 
 impl<'a> BytePicture<'a> {
     // Never refuses: a column count of 0 or above 4,096 makes a picture of no column and no row.
+    // `⟦..⟧.shown result` is what the picture means, as its `impl Picture` below says.
     pub fn new(bytes: &'a [u8], columns: usize) -> Self
         ensures { ⟦<BytePicture<'a> as Picture>⟧.shown result ≡ byte_raster columns bytes.now }
     {

@@ -14,7 +14,7 @@ pub struct Halving<P> {
 fn quarter(a: u8, b: u8, c: u8, d: u8) -> u8
     ensures { result ≡ (a + b + c + d) / 4 }
 {
-    ((a as u16 + b as u16 + c as u16 + d as u16) / 4) as u8
+    ((u16::from(a) + u16::from(b) + u16::from(c) + u16::from(d)) / 4) as u8
 }
 
 impl<P: Picture> Picture for Halving<P> {

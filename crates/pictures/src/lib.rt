@@ -1,4 +1,4 @@
-// Pictures: what every make of picture answers.
+// Pictures: what every kind of picture answers.
 #![tactic(auto)]
 
 ghost use Rattle.std.specs.Prelude.{◌≡◌};
@@ -33,7 +33,7 @@ pub trait Picture {
     fn level(&self, x: usize, y: usize) -> Option<u8>
         ensures { result ≡ level_at (shown self.now) x y };
 
-    // The law of pictures: what each make means is one.
+    // The law of pictures: what a value of any kind means is a picture.
     ghost sound: { (p : Self) → Sound (shown p) };
 
     // How many pixels there are.

@@ -6,7 +6,7 @@ ghost use Rattle.rules.specs.Distances.{gap, squares, absolute, tolerance};
 ghost use Rattle.std.proofs.lemmas.Nat.{mul-le};
 ghost use Rattle.std.proofs.Common.{rules};
 
-// A distance between two levels. Any make will do that shows the two laws; code above rests on nothing else.
+// A distance between two levels. Any rule will do that shows the two laws; code above rests on nothing else.
 pub trait DistanceRule {
     // The table of all distances; a question gets the table's number and changes nothing.
     ghost table: { Self → ℕ → ℕ → ℕ };
@@ -54,7 +54,7 @@ impl DistanceRule for Absolute {
     }
 }
 
-// 0 where the gap is within the tolerance, else 1.
+// 1 where the gap is greater than the tolerance, else 0.
 #[derive(Clone, Copy)]
 pub struct Tolerance {
     pub within: u8,
