@@ -31,7 +31,7 @@ pub(crate) enum Stage {
     Digits { start: usize, value: usize },
 }
 
-// The three numbers of a header.
+// The three numbers of a header. A step answers these and no Shape: it would have to ask that the place behind its byte is a usize.
 #[derive(Clone, Copy)]
 pub(crate) struct Numbers {
     columns: usize,
@@ -39,7 +39,7 @@ pub(crate) struct Numbers {
     maxval: u8,
 }
 
-// The same, and the place of the first sample.
+// The three numbers, and the place of the first sample.
 #[derive(Clone, Copy)]
 pub(crate) struct Shape {
     pub(crate) columns: usize,
