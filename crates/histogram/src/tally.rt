@@ -130,7 +130,7 @@ impl Tally {
         for level in low..=high {
             let here = self.histogram.count(level);
             count += here;
-            levels += here * level as u32;
+            levels += here * u32::from(level);
         }
         BandSums { count, levels }
     }

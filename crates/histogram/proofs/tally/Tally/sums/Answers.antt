@@ -42,7 +42,7 @@ loop-level-preserved c =
     let h = c.self.inside.histogram.counts in
     let j = c.loop-level.level in (
       omega (arith, sum_more one h c.args.low j (omega arith), mul-one (get_or h j 0), c.loop-level.invariant.0),
-      omega (arith, sum_more level h c.args.low j (omega arith), c.loop-level.invariant.1, ap (λ (n : ℕ). n * j) c.count-here.ensures),
+      omega (arith, sum_more level h c.args.low j (omega arith), c.loop-level.invariant.1, ap (λ (n : ℕ). n * c.from.result) c.count-here.ensures, ap (λ (n : ℕ). get_or h j 0 * n) c.from.ensures),
       λ e. absurd (omega arith),
     )
 
@@ -59,7 +59,7 @@ left c =
       )
       | then-loop-level-test+else-level-high w ↦ (
         w.count-is ∙ sum-last one h a b c.loop-level.level _ _ (omega arith) (omega arith) c.loop-level.invariant.0 (w.count-here.ensures ∙ sym (mul-one _)),
-        w.levels-is ∙ sum-last level h a b c.loop-level.level _ _ (omega arith) (omega arith) c.loop-level.invariant.1 (ap (λ (n : ℕ). n * c.loop-level.level) w.count-here.ensures),
+        w.levels-is ∙ sum-last level h a b c.loop-level.level _ _ (omega arith) (omega arith) c.loop-level.invariant.1 (ap (λ (n : ℕ). n * w.from.result) w.count-here.ensures ∙ ap (λ (n : ℕ). get_or h c.loop-level.level 0 * n) w.from.ensures),
       )
     ]
 
