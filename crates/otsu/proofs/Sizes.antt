@@ -1,12 +1,12 @@
 -- The two classes of a threshold, and the size of its criterion.
-use Rattle.std.proofs.Common.{◌≡◌, ℕ, suc, ◌+◌, ◌-◌, ◌*◌, ◌^◌, ◌<◌, ◌≤◌, List, length, get_or, sym, ap, ◌∙◌, subst, inl, inr, le_trans, le_of_eq, mul-le-mul_right, mul_assoc, mul_comm, add-mul, mul-le-mul, mul-pos, mul-one, mul-add, mul_right_comm, arith}
+use Rattle.std.proofs.Common.{◌≡◌, ℕ, suc, ◌+◌, ◌-◌, ◌*◌, ◌^◌, ◌<◌, ◌≤◌, List, length, get_or, ap, ◌∙◌, subst, inl, inr, le_trans, le_of_eq, mul-le-mul_right, mul_assoc, mul_comm, add-mul, mul-le-mul, mul-pos, mul-one, mul-add, mul_right_comm, arith}
 use native.Mathlib.Nat.{mul-mul-mul_comm}
 use Rattle.std.proofs.lemmas.Bool.{cases_lt}
 use Rattle.histogram.specs.Counts.{occupied, lowest, highest}
-use Rattle.histogram.specs.Totals.{sum_of, one, level, pixels}
-use Rattle.histogram.proofs.Laws.{sum-join, sum-suc, sum-empty, level-le, room}
+use Rattle.histogram.specs.Totals.{one}
+use Rattle.histogram.proofs.Laws.{sum-suc, sum-empty, level-le}
 use Rattle.histogram.proofs.Spans.{spanned}
-use Rattle.otsu.specs.Otsu.{n0, n1, s0, s1, bottom}
+use Rattle.otsu.specs.Otsu.{n0, n1, bottom}
 use Rattle.otsu.specs.Search.{Range}
 use Rattle.otsu.specs.declared.Classes.{Classes}
 
@@ -24,10 +24,6 @@ range h l =
 pub record Sides (h : List ℕ) (k : ℕ) : Type 0 where
   pub some-low : 0 < n0 h k
   pub some-high : 0 < n1 h k
-  pub all : n0 h k + n1 h k ≡ pixels h
-  pub sums : s0 h k + s1 h k ≡ sum_of level h 0 256
-  pub rate-low : s0 h k ≤ 255 * n0 h k
-  pub rate-high : s1 h k ≤ 255 * n1 h k
 
 pub classes : (h : List ℕ) (lo up k : ℕ) → Range h lo up → lo ≤ k → k < up → Sides h k
 classes h lo up k r a b =
@@ -35,10 +31,6 @@ classes h lo up k r a b =
     record {
       some-low = omega (arith, level-le h 0 (suc k) lo (omega arith) (omega arith), r.at_lo);
       some-high = omega (arith, level-le h (suc k) 256 up b (omega arith), r.at_up);
-      all = sym (sum-join one h 0 (suc k) 256 (omega arith) (omega arith));
-      sums = sym (sum-join level h 0 (suc k) 256 (omega arith) (omega arith));
-      rate-low = (room h 0 (suc k) (omega arith)).dim;
-      rate-high = (room h (suc k) 256 (omega arith)).dim;
     }
 
 pub bottom-pos : (h : List ℕ) (lo up k : ℕ) → Range h lo up → lo ≤ k → k < up → 0 < bottom h k

@@ -4,7 +4,6 @@
 ghost use Rattle.std.specs.Prelude.{◌≡◌, ◌+◌, ◌-◌, ◌*◌, ◌^◌, ◌<◌, ◌≤◌, ltb, length, IfSome, if◌then◌else◌, Some, None, nat_lt};
 ghost use Rattle.std.specs.Option.{option_map};
 ghost use Rattle.histogram.specs.Counts.{occupied, lowest, highest};
-ghost use Rattle.histogram.specs.Totals.{pixels};
 ghost use Rattle.cut_sets.specs.Sets.{bands_of};
 ghost use Rattle.otsu.specs.Otsu.{Otsu, otsu_level, otsu_bands};
 ghost use Rattle.otsu.specs.Search.{Range};
@@ -40,7 +39,8 @@ impl Ratio {
     }
 }
 
-// The two classes of a threshold: the pixels up to it and those above, how many and the sum of their levels.
+// The two classes of a threshold: the pixels up to it and those above, how many and the sum of their levels, in the criterion's letters.
+// No two `BandSums`: the search moves pixels one level at a time from one class to the other, and 64 bits hold the products.
 #[derive(Clone, Copy)]
 struct Classes {
     n0: u64,
@@ -62,17 +62,18 @@ impl Classes {
         requires level { k < 255 }
         requires some_low { 0 < n0 tally.now k }
         requires some_high { 0 < n1 tally.now k }
-        requires few { pixels tally.now ≤ 65536 }
-        ensures low { (result.n0 ≡ n0 tally.now k) × (result.s0 ≡ s0 tally.now k) }
-        ensures high { (result.n1 ≡ n1 tally.now k) × (result.s1 ≡ s1 tally.now k) }
+        ensures n0 { result.n0 ≡ n0 tally.now k }
+        ensures s0 { result.s0 ≡ s0 tally.now k }
+        ensures n1 { result.n1 ≡ n1 tally.now k }
+        ensures s1 { result.s1 ≡ s1 tally.now k }
     {
         let low = tally.sums(0, k);
         let high = tally.sums(k + 1, 255);
         Classes {
-            n0: low.count() as u64,
-            s0: low.levels() as u64,
-            n1: high.count() as u64,
-            s1: high.levels() as u64,
+            n0: u64::from(low.count()),
+            s0: u64::from(low.levels()),
+            n1: u64::from(high.count()),
+            s1: u64::from(high.levels()),
         }
     }
 
@@ -81,10 +82,12 @@ impl Classes {
         requires some { count < self.n1 }
         requires among { count * level ≤ self.s1 }
         requires dim { self.s1 - count * level ≤ 255 * (self.n1 - count) }
-        ensures low { (result.n0 ≡ self.n0 + count) × (result.s0 ≡ self.s0 + count * level) }
-        ensures high { (result.n1 ≡ self.n1 - count) × (result.s1 ≡ self.s1 - count * level) }
+        ensures n0 { result.n0 ≡ self.n0 + count }
+        ensures s0 { result.s0 ≡ self.s0 + count * level }
+        ensures n1 { result.n1 ≡ self.n1 - count }
+        ensures s1 { result.s1 ≡ self.s1 - count * level }
     {
-        let sum = count * level as u64;
+        let sum = count * u64::from(level);
         Classes {
             n0: self.n0 + count,
             s0: self.s0 + sum,
@@ -114,11 +117,10 @@ fn first_largest(tally: &Tally, extent: Extent) -> u8
     let mut best = extent.lowest;
     let mut most = classes.criterion();
     for k in extent.lowest + 1..extent.highest {
-        classes = classes.raised(k, histogram.count(k) as u64);
+        classes = classes.raised(k, u64::from(histogram.count(k)));
         let next = classes.criterion();
         // Only a larger one takes its place, so that the first of equals stays.
-        let larger = most.below(next);
-        if larger {
+        if most.below(next) {
             best = k;
             most = next;
         }

@@ -10,7 +10,7 @@ invariant_of-result c =
     record {
       some_low = omega (arith, c.requires.some_low, c.count.ensures, c.sums-low.ensures.count);
       some_high = omega (arith, c.requires.some_high, c.count-2.ensures, c.sums-high.ensures.count, e);
-      few = omega (arith, c.requires.few, c.count.ensures, c.sums-low.ensures.count, c.count-2.ensures, c.sums-high.ensures.count, e, sum-join one h 0 (suc c.args.k) 256 (omega arith) (omega arith));
+      few = omega (arith, c.sums-low.ensures.few, c.count.ensures, c.sums-low.ensures.count, c.count-2.ensures, c.sums-high.ensures.count, e, sum-join one h 0 (suc c.args.k) 256 (omega arith) (omega arith));
       dim_low = omega (arith, c.count.ensures, c.levels.ensures, c.sums-low.result.dim);
       dim_high = omega (arith, c.count-2.ensures, c.levels-2.ensures, c.sums-high.result.dim);
     }
