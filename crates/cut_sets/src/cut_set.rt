@@ -10,7 +10,7 @@ use histogram::tally::Tally;
 use rules::DistanceRule;
 
 // Two to eight classes, with their bands in the first places: the bands rise, and each has its level inside.
-// No heap: a table of eight places and the number of those in use.
+// No heap: at most eight places, in memory of the cut set's own, so that it is `Copy`.
 #[derive(Clone, Copy)]
 pub struct CutSet {
     classes: usize,
@@ -27,9 +27,10 @@ fn band_sum<R: DistanceRule>(rule: &R, tally: &Tally, band: Band) -> u64
     ensures bound { result ≤ 65536 * 65025 }
 {
     let histogram = tally.histogram();
+    // A loop: the library has no lemma on the list that a range with both its ends gives to a chain.
     let mut sum = 0;
     for level in band.low..=band.high {
-        sum += histogram.count(level) as u64 * rule.distance(level, band.level) as u64;
+        sum += u64::from(histogram.count(level)) * u64::from(rule.distance(level, band.level));
     }
     sum
 }
