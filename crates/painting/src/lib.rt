@@ -40,6 +40,7 @@ fn paint_rows<P: Picture>(set: &CutSet, picture: &P, buffer: &mut [u8])
     let palette = Palette::new(set);
     let columns = picture.columns();
     let rows = picture.rows();
+    // Loops: after a closure that changes what it borrowed, a proof knows nothing of it.
     for y in 0..rows {
         let start = y * columns;
         // Counted by place, since the picture is asked by the same numbers.

@@ -26,6 +26,6 @@ impl Palette {
     pub fn level_of(&self, level: u8) -> u8
         ensures { result ≡ slice_index self.now.levels level }
     {
-        self.levels[level as usize]
+        self.levels[usize::from(level)]
     }
 }
