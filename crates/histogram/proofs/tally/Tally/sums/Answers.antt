@@ -52,14 +52,15 @@ left c =
     let h = c.self.inside.histogram.counts in
     let a = c.args.low in
     let b = c.args.high in
+    let z = c.loop-level.level in
     elim c.loop-level-test.branch [
       | else-loop-level-test w ↦ (
-        w.count-is ∙ c.loop-level.invariant.0 ∙ sum-unbegun one h a b c.loop-level.level c.loop-level.auto.level-end w.loop-level-test.false c.loop-level.invariant.2,
-        w.levels-is ∙ c.loop-level.invariant.1 ∙ sum-unbegun level h a b c.loop-level.level c.loop-level.auto.level-end w.loop-level-test.false c.loop-level.invariant.2,
+        w.count-is ∙ c.loop-level.invariant.0 ∙ sum-unbegun one h a b z c.loop-level.auto.level-end w.loop-level-test.false c.loop-level.invariant.2,
+        w.levels-is ∙ c.loop-level.invariant.1 ∙ sum-unbegun level h a b z c.loop-level.auto.level-end w.loop-level-test.false c.loop-level.invariant.2,
       )
       | then-loop-level-test+else-level-high w ↦ (
-        w.count-is ∙ sum-last one h a b c.loop-level.level _ _ (omega arith) (omega arith) c.loop-level.invariant.0 (w.count-here.ensures ∙ sym (mul-one _)),
-        w.levels-is ∙ sum-last level h a b c.loop-level.level _ _ (omega arith) (omega arith) c.loop-level.invariant.1 (ap (λ (n : ℕ). n * w.from.result) w.count-here.ensures ∙ ap (λ (n : ℕ). get_or h c.loop-level.level 0 * n) w.from.ensures),
+        omega (arith, w.count-is, sum-last one h a b z _ _ (omega arith) (omega arith) c.loop-level.invariant.0 refl, mul-one (get_or h z 0), w.count-here.ensures),
+        omega (arith, w.levels-is, sum-last level h a b z _ _ (omega arith) (omega arith) c.loop-level.invariant.1 refl, ap (λ (n : ℕ). n * w.from.result) w.count-here.ensures, ap (λ (n : ℕ). get_or h z 0 * n) w.from.ensures),
       )
     ]
 
