@@ -27,7 +27,7 @@ fn band_sum<R: DistanceRule>(rule: &R, tally: &Tally, band: Band) -> u64
     ensures bound { result ≤ 65536 * 65025 }
 {
     let histogram = tally.histogram();
-    // A loop: the library has no lemma on the list that a range with both its ends gives to a chain.
+    // A loop: as a chain over a range with both its ends, neither that the sum fits nor its value could be proved.
     let mut sum = 0;
     for level in band.low..=band.high {
         sum += u64::from(histogram.count(level)) * u64::from(rule.distance(level, band.level));
