@@ -74,7 +74,7 @@ impl<'a> Bench<'a> {
         }
     }
 
-    // Columns, rows and levels as the picture answers them.
+    // Columns, rows and levels as the picture answers them: place by place, since a picture has no iterator over its levels.
     fn show<P: Picture>(&self, picture: &P) -> anyhow::Result<()> {
         let columns = picture.columns();
         let rows = picture.rows();

@@ -12,7 +12,7 @@ pub(crate) enum Layer {
         columns: usize,
         rows: usize,
     },
-    // The free places of an ArrayVec hold the default.
+    // An ArrayVec fills its free places with the default; its other maker, `new_in`, asks for one too.
     #[default]
     Negative,
     Halving,

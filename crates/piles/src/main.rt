@@ -15,6 +15,7 @@ fn main(rt: HostRuntime) -> anyhow::Result<()> {
     let mut text = String::new(rt.alloc());
     rt.stdin().read_to_string(&mut text)?;
     let mut bench = Bench::new(&rt);
+    // Before the first picture: a pile of no column and no byte.
     let mut pile = Pile::new(0, Samples::Bytes(Vec::new(rt.alloc())));
     for line in text.lines() {
         let Some(command) = script::read(rt.alloc(), line)? else {

@@ -8,29 +8,40 @@ use anyhow::anyhow;
 use listing::list::report;
 use std::io::Read;
 
-// The number on the first line, and what follows the line; none where there is no such line.
-fn length_line(table: &[u8]) -> Option<(usize, &[u8])>
-    ensures { IfSome result (λ r. length r.1.now < length table.now) }
+// A file's length, as a line says it, and what follows the line.
+#[derive(Clone, Copy)]
+struct Entry<'a> {
+    length: usize,
+    rest: &'a [u8],
+}
+
+// The entry of the first line; none where there is no line of digits.
+// The number by hand: `parse` would take a plus sign, and refuse an empty line, which here is 0.
+fn first_entry(table: &[u8]) -> Option<Entry<'_>>
+    ensures { IfSome result (λ entry. length entry.rest.now < length table.now) }
 {
     let end = table.iter().position(|byte| *byte == b'\n')?;
-    let mut value = 0usize;
+    let mut length = 0usize;
     for byte in &table[..end] {
         if !byte.is_ascii_digit() {
             return None;
         }
         // A number too large for the type is longer than any table.
-        value = value
+        length = length
             .saturating_mul(10)
             .saturating_add(usize::from(*byte - b'0'));
     }
-    Some((value, &table[end + 1..]))
+    Some(Entry {
+        length,
+        rest: &table[end + 1..],
+    })
 }
 
 // Prints one case, and answers the table behind it; an error where the table ends inside it.
 fn print_case<'a>(rt: &HostRuntime, number: u32, table: &'a [u8]) -> anyhow::Result<&'a [u8]>
     ensures { IfOk result (λ rest. length rest.now < length table.now) }
 {
-    let case = length_line(table).and_then(|(bytes, behind)| behind.split_at_checked(bytes));
+    let case = first_entry(table).and_then(|entry| entry.rest.split_at_checked(entry.length));
     let Some((file, rest)) = case else {
         return Err(anyhow!("the table ends inside a case"));
     };
@@ -43,6 +54,7 @@ fn main(rt: HostRuntime) -> anyhow::Result<()> {
     let mut table = Vec::new(rt.alloc());
     rt.stdin().read_to_end(&mut table)?;
     let mut rest = table.as_slice();
+    // A range, and no `while`: so the loop ends by itself, and each case has its number.
     for number in 1..u32::MAX {
         if rest.is_empty() {
             return Ok(());
