@@ -12,7 +12,7 @@ pub(crate) enum Layer {
         columns: usize,
         rows: usize,
     },
-    // An ArrayVec fills its free places with the default; its other maker, `new_in`, asks for one too.
+    // An ArrayVec fills its free places with the default; its other maker, `new_in`, asks for a blank value too.
     #[default]
     Negative,
     Halving,
