@@ -40,7 +40,8 @@ impl Ratio {
 }
 
 // The two classes of a threshold: the pixels up to it and those above, how many and the sum of their levels, in the criterion's letters.
-// No two `BandSums`: the search moves pixels one level at a time from one class to the other, and 64 bits hold the products.
+// No two `BandSums`, which only a tally makes: to move a level's pixels from one to the other, `histogram` would have to hand out a
+// call that can refuse.
 #[derive(Clone, Copy)]
 struct Classes {
     n0: u64,
