@@ -10,7 +10,8 @@ use histogram::tally::Tally;
 use rules::DistanceRule;
 
 // Two to eight classes, with their bands in the first places: the bands rise, and each has its level inside.
-// No heap: at most eight places, in memory of the cut set's own, so that it is `Copy`.
+// No heap: at most eight places, in memory of the cut set's own, so that it is `Copy`. No model: the places behind the last band do
+// not follow from the bands.
 #[derive(Clone, Copy)]
 pub struct CutSet {
     classes: usize,

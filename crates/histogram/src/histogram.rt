@@ -124,6 +124,7 @@ impl Histogram {
         self.counts = array::from_fn(|level| self.counts[level] - less.counts[level]);
     }
 
+    // A loop over the counts with their levels, since number, first and last come in one go.
     pub fn extent(&self) -> Extent
         ensures { result ≡ extent_of self.now.counts }
     {

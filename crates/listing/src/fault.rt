@@ -15,6 +15,7 @@ pub enum ListFault {
     Short(usize),
 }
 
+// The numbers are the format that a fault is told in.
 impl From<ListFault> for Fault {
     ghost from_gives = { λ f r. r ≡ list_fault f };
 
@@ -31,6 +32,7 @@ impl From<ListFault> for Fault {
     }
 }
 
+// These by hand, since a derive states nothing of what comes out.
 impl From<ReadFault> for ListFault {
     ghost from_gives = { λ f r. r ≡ Read f };
 

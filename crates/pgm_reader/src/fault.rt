@@ -14,6 +14,7 @@ pub enum ReadFault {
     AboveMaxval(usize),
 }
 
+// The numbers are the format that a fault is told in.
 impl From<ReadFault> for Fault {
     ghost from_gives = { λ fault result. result ≡ read_fault fault };
 

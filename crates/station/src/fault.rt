@@ -25,6 +25,7 @@ pub enum StationFault {
     ShortBuffer(usize),
 }
 
+// The numbers are the format that a fault is told in.
 impl From<StationFault> for Fault {
     ghost from_gives = { λ f r. r ≡ station_fault f };
 
@@ -46,6 +47,7 @@ impl From<StationFault> for Fault {
     }
 }
 
+// These by hand, since a derive states nothing of what comes out.
 impl From<Lacking> for StationFault {
     ghost from_gives = { λ l r. r ≡ Lacking l.level };
 
