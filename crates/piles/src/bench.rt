@@ -1,5 +1,5 @@
 // Three stations, one for each rule, that get the same calls: one by one, since each is a type of its own.
-ghost use Rattle.std.specs.Prelude.{◌≡◌, MatchResult};
+ghost use Rattle.std.specs.Prelude.{◌≡◌};
 ghost use Rattle.station.specs.Account.{start};
 ghost use Rattle.station.specs.States.{account_of};
 
@@ -8,7 +8,7 @@ use faults::Fault;
 use pictures::Picture;
 use rules::{Absolute, Squares, Tolerance};
 use station::fault::StationFault;
-use station::station::{CutAnswer, Station};
+use station::station::Station;
 
 #[derive(Drop)]
 pub(crate) struct Bench<'a> {
@@ -29,13 +29,6 @@ fn print_done(rt: &HostRuntime, answer: Result<(), StationFault>) -> anyhow::Res
         Err(refusal) => print_fault(rt, refusal)?,
     }
     Ok(())
-}
-
-// The sum of a cut that another station accepted too; 0 where it was refused.
-fn sum_of(answer: Result<CutAnswer, StationFault>) -> u64
-    ensures { MatchResult answer (λ cut. result ≡ cut.sum) (λ _. result ≡ 0) }
-{
-    answer.map_or(0, |cut| cut.sum)
 }
 
 impl<'a> Bench<'a> {
@@ -113,6 +106,7 @@ impl<'a> Bench<'a> {
         Ok(())
     }
 
+    // Each station for itself, here and at a lift: they differ in type, and no closure or dyn takes a call with any picture.
     fn lay<P: Picture>(&mut self, picture: &P) -> anyhow::Result<()> {
         print_done(self.rt, self.squares.lay(picture))?;
         let _ = self.absolute.lay(picture);
@@ -129,11 +123,17 @@ impl<'a> Bench<'a> {
 
     // The classes, the sum by each rule, and the bands.
     fn otsu(&mut self) -> anyhow::Result<()> {
-        let absolute = sum_of(self.absolute.otsu_cut());
-        let tolerance = sum_of(self.tolerance.otsu_cut());
-        match self.squares.otsu_cut() {
-            Ok(cut) => print!(self.rt; "cut {} {} {absolute} {tolerance}", cut.classes, cut.sum)?,
-            Err(refusal) => return print_fault(self.rt, refusal),
+        let squares = self.squares.otsu_cut();
+        match (squares, self.absolute.otsu_cut(), self.tolerance.otsu_cut()) {
+            (Ok(cut), Ok(absolute), Ok(tolerance)) => {
+                print!(self.rt;
+                    "cut {} {} {} {}",
+                    cut.classes, cut.sum, absolute.sum, tolerance.sum
+                )?
+            }
+            (Err(refusal), _, _) | (_, Err(refusal), _) | (_, _, Err(refusal)) => {
+                return print_fault(self.rt, refusal);
+            }
         }
         for band in (1..9).filter_map(|number| self.squares.band(number)) {
             print!(self.rt; " {} {} {} {}", band.low, band.high, band.level, band.count)?;

@@ -115,7 +115,7 @@ fn call_of(word: &str, given: &[usize]) -> anyhow::Result<Call> {
     })
 }
 
-// A line of the script: a picture, a layer on it, or a call; none where it has no word.
+// A line of the script: a picture, a layer on it, or a call; none where it has no word. Here alone its word is text.
 pub(crate) fn read(heap: Global, line: &str) -> anyhow::Result<Option<Command>> {
     if line == "case" {
         return Ok(Some(Command::Case));
