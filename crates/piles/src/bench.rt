@@ -121,7 +121,7 @@ impl<'a> Bench<'a> {
         self.print_hand()
     }
 
-    // The classes, the sum by each rule, and the bands.
+    // The classes, the sum by each rule, and the bands: no Display for either, since nothing else prints them.
     fn otsu(&mut self) -> anyhow::Result<()> {
         let squares = self.squares.otsu_cut();
         match (squares, self.absolute.otsu_cut(), self.tolerance.otsu_cut()) {
