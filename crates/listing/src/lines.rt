@@ -34,7 +34,8 @@ fn two_classes<R: DistanceRule>(station: &Station<R>) -> TwoClasses
     }
 }
 
-// What is listed of a station after an Otsu cut with this sum. Numbers widen by `as`: by `from` each would be a call to argue about.
+// What is listed of a station after an Otsu cut with this sum. Put together as the fault's line below, and for its reason. Numbers
+// widen by `as`: by `from` each would be a call to argue about.
 fn station_text<R: DistanceRule>(station: &Station<R>, sum: u64) -> Text
     ensures { result ≡ listing_lines (account_of station.now) sum }
 {
