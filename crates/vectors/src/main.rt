@@ -2,7 +2,7 @@
 // In the table each file stands behind its length, in decimal digits, and LF.
 #![tactic(auto)]
 
-ghost use Rattle.std.specs.Prelude.{◌<◌, length, IfSome, IfOk};
+ghost use Rattle.std.specs.Prelude.{◌≡◌, ◌+◌, ◌<◌, ◌==◌, length, drop, position, IfSome, IfOk};
 
 use anyhow::anyhow;
 use listing::list::report;
@@ -15,12 +15,20 @@ struct Entry<'a> {
     rest: &'a [u8],
 }
 
+// Where the first line ends; none where no LF stands.
+fn line_end(table: &[u8]) -> Option<usize>
+    ensures { result ≡ position (λ b. b == 10) table.now }
+{
+    table.iter().position(|byte| *byte == b'\n')
+}
+
 // The entry of the first line; none where there is no line of digits.
 // The number by hand: `parse` would take a plus sign, and refuse an empty line, which here is 0.
 fn first_entry(table: &[u8]) -> Option<Entry<'_>>
-    ensures { IfSome result (λ entry. length entry.rest.now < length table.now) }
+    ensures shorter { IfSome result (λ entry. length entry.rest.now < length table.now) }
+    ensures behind { IfSome result (λ entry. IfSome (position (λ b. b == 10) table.now) (λ end. entry.rest.now ≡ drop (end + 1) table.now)) }
 {
-    let end = table.iter().position(|byte| *byte == b'\n')?;
+    let end = line_end(table)?;
     let mut length = 0usize;
     for byte in &table[..end] {
         if !byte.is_ascii_digit() {
