@@ -8,7 +8,7 @@ use Rattle.std.proofs.lemmas.Bool.{cases_lt, cases_order, eq-eqb, ne_eqb, lt-ltb
 use Rattle.std.specs.Option.{option_map}
 use Rattle.std.specs.List.{slice_get}
 use Rattle.std.proofs.lemmas.Option.{slice_get-map}
-use Rattle.pictures.specs.declared.grid.Grid.{Grid}
+use Rattle.pictures.specs.declared.grid.Samples.{Samples}
 use Rattle.pictures.specs.Raster.{level_at}
 use Rattle.pictures.specs.Grids.{sample_in, grid_showing}
 use Rattle.pictures.proofs.Grids.{grid-at}
@@ -114,11 +114,12 @@ pub doses-low : (ss : List Float) (i : ℕ) → get_or (map dose_level_of ss) i 
 doses-low ss i = omega (arith, dose-at ss i, dose-low (get_or ss i nan))
 
 -- The level of the sample at a place of a grid.
-pub dose-place : (g : Grid Float) (x y : ℕ) (o : Option Float) → o ≡ sample_in g x y → option_map dose_level_of o ≡ level_at (grid_showing g (map dose_level_of g.samples.now)) x y
-dose-place g x y o e =
+pub dose-place : (s : Samples Float) (x y : ℕ) (o : Option Float) → o ≡ sample_in s x y → option_map dose_level_of o ≡ level_at (grid_showing s.grid (map dose_level_of s.samples.now)) x y
+dose-place s x y o e =
+    let g = s.grid in
     ap (option_map dose_level_of) e ∙ go (ltb x g.columns && ltb y g.rows)
-    ∙ grid-at g (map dose_level_of g.samples.now) x y (length-map g.samples.now dose_level_of) (doses-low g.samples.now)
+    ∙ grid-at s (map dose_level_of s.samples.now) x y (length-map s.samples.now dose_level_of) (doses-low s.samples.now)
   where
-    go : (b : Bool) → option_map dose_level_of (cond b (slice_get g.samples.now (y * g.columns + x)) None) ≡ cond b (slice_get (map dose_level_of g.samples.now) (y * g.columns + x)) None
-    go true = sym (slice_get-map dose_level_of g.samples.now (y * g.columns + x))
+    go : (b : Bool) → option_map dose_level_of (cond b (slice_get s.samples.now (y * s.grid.columns + x)) None) ≡ cond b (slice_get (map dose_level_of s.samples.now) (y * s.grid.columns + x)) None
+    go true = sym (slice_get-map dose_level_of s.samples.now (y * s.grid.columns + x))
     go false = refl

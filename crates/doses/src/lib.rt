@@ -8,16 +8,16 @@ ghost use Rattle.doses.specs.Dose.{dose_level_of, clips, dose_raster};
 ghost use Rattle.doses.specs.Clips.{first_clip, FirstClip};
 
 use pictures::Picture;
-use pictures::grid::Grid;
+use pictures::grid::Samples;
 use std::fmt;
 use std::num::saturating_f32_to_u8;
 
 // Float samples in the caller's memory, as whole rows.
-// A second picture over a `Grid`, and not one generic picture for both: only its own crate can give a type methods, and `first_clip`
+// A second picture over `Samples`, and not one generic picture for both: only its own crate can give a type methods, and `first_clip`
 // is a method of dose pictures alone; nor can f32 get a trait of `pictures` here, where both are foreign.
 #[derive(Clone, Copy)]
 pub struct DosePicture<'a> {
-    grid: Grid<'a, f32>,
+    samples: Samples<'a, f32>,
 }
 
 // Column x of row y.
@@ -55,27 +55,27 @@ impl<'a> DosePicture<'a> {
     // `⟦..⟧.shown result` is what the picture means, as its `impl Picture` below says.
     pub fn new(samples: &'a [f32], columns: usize) -> Self
         ensures shown { ⟦<DosePicture<'a> as Picture>⟧.shown result ≡ dose_raster columns samples.now }
-        ensures columns { result.grid.columns ≡ columns_given columns }
-        ensures rows { result.grid.rows ≡ whole_rows (columns_given columns) (length samples.now) }
-        ensures samples { result.grid.samples.now ≡ samples.now }
+        ensures columns { result.samples.grid.columns ≡ columns_given columns }
+        ensures rows { result.samples.grid.rows ≡ whole_rows (columns_given columns) (length samples.now) }
+        ensures samples { result.samples.samples.now ≡ samples.now }
     {
         DosePicture {
-            grid: Grid::new(samples, columns),
+            samples: Samples::new(samples, columns),
         }
     }
 
     // The place of the first clipped sample, row by row; none where no sample is clipped.
     // Nested loops, left by a label: so the place is at hand, and no number of a sample has to be taken apart.
     pub fn first_clip(&self) -> Option<Place>
-        ensures value { result ≡ first_clip self.now.grid.columns self.now.grid.rows self.now.grid.samples.now }
-        ensures words { FirstClip self.now.grid.columns self.now.grid.rows self.now.grid.samples.now result }
+        ensures value { result ≡ first_clip self.now.samples.grid.columns self.now.samples.grid.rows self.now.samples.samples.now }
+        ensures words { FirstClip self.now.samples.grid.columns self.now.samples.grid.rows self.now.samples.samples.now result }
     {
-        let columns = self.grid.columns();
-        let rows = self.grid.rows();
+        let columns = self.samples.columns();
+        let rows = self.samples.rows();
         let mut found = None;
         'search: for y in 0..rows {
             for x in 0..columns {
-                if self.grid.sample(x, y).is_some_and(is_clipped) {
+                if self.samples.sample(x, y).is_some_and(is_clipped) {
                     found = Some(Place { x, y });
                     break 'search;
                 }
@@ -86,20 +86,20 @@ impl<'a> DosePicture<'a> {
 }
 
 impl<'a> Picture for DosePicture<'a> {
-    ghost shown = { λ p. grid_showing p.grid (map dose_level_of p.grid.samples.now) };
+    ghost shown = { λ p. grid_showing p.samples.grid (map dose_level_of p.samples.samples.now) };
 
-    ghost sound = { λ p. grid_showing-sound p.grid (map dose_level_of p.grid.samples.now) };
+    ghost sound = { λ p. grid_showing-sound p.samples.grid (map dose_level_of p.samples.samples.now) };
 
     fn columns(&self) -> usize {
-        self.grid.columns()
+        self.samples.columns()
     }
 
     fn rows(&self) -> usize {
-        self.grid.rows()
+        self.samples.rows()
     }
 
     fn level(&self, x: usize, y: usize) -> Option<u8> {
-        self.grid.sample(x, y).map(dose_level)
+        self.samples.sample(x, y).map(dose_level)
     }
 }
 

@@ -4,14 +4,14 @@ ghost use Rattle.pictures.specs.Bytes.{byte_raster};
 ghost use Rattle.pictures.specs.Grids.{grid_showing, grid_showing-sound};
 
 use crate::Picture;
-use crate::grid::Grid;
+use crate::grid::Samples;
 
 // Bytes in the caller's memory, as whole rows.
 #[derive(Clone, Copy)]
 pub struct BytePicture<'a> {
-    grid: Grid<'a, u8>,
-    // For the proof of `level`: a `Grid` holds samples of any type, so a proof sees only here that these are at most 255.
-    ghost levels: { (i : ℕ) → slice_index grid.samples.now i ≤ 255 },
+    bytes: Samples<'a, u8>,
+    // For the proof of `level`: `Samples` are of any type, so a proof sees only here that these are at most 255.
+    ghost levels: { (i : ℕ) → slice_index bytes.samples.now i ≤ 255 },
 }
 
 impl<'a> BytePicture<'a> {
@@ -21,26 +21,27 @@ impl<'a> BytePicture<'a> {
         ensures { ⟦<BytePicture<'a> as Picture>⟧.shown result ≡ byte_raster columns bytes.now }
     {
         BytePicture {
-            grid: Grid::new(bytes, columns),
+            bytes: Samples::new(bytes, columns),
         }
     }
 }
 
 impl<'a> Picture for BytePicture<'a> {
-    ghost shown = { λ p. grid_showing p.grid p.grid.samples.now };
+    ghost shown = { λ p. grid_showing p.bytes.grid p.bytes.samples.now };
 
-    ghost sound = { λ p. grid_showing-sound p.grid p.grid.samples.now };
+    ghost sound = { λ p. grid_showing-sound p.bytes.grid p.bytes.samples.now };
 
     fn columns(&self) -> usize {
-        self.grid.columns()
+        self.bytes.columns()
     }
 
     fn rows(&self) -> usize {
-        self.grid.rows()
+        self.bytes.rows()
     }
 
+    #[tactic(auto, using(crate::proofs::Grids::byte_level))]
     fn level(&self, x: usize, y: usize) -> Option<u8> {
-        self.grid.sample(x, y)
+        self.bytes.sample(x, y)
     }
 }
 

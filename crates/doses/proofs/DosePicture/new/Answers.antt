@@ -8,8 +8,8 @@ use Rattle.doses.proofs.DosePicture.new.Goals as goal
 
 pub returns-clause-shown : goal.returns-clause-shown
 returns-clause-shown c =
-    let g = c.new.result in
+    let s = c.new.result in
     let ss = c.args.samples.now in
     let e = c.new.ensures.samples in
-    ap (λ xs. grid_showing g (map dose_level_of xs)) e
-    ∙ grid-given c.args.columns g ss (map dose_level_of ss) e (length-map ss dose_level_of) c.new.ensures.columns c.new.ensures.rows (doses-low ss)
+    ap (λ xs. grid_showing s.grid (map dose_level_of xs)) e
+    ∙ grid-given c.args.columns s ss (map dose_level_of ss) e (length-map ss dose_level_of) c.new.ensures.columns c.new.ensures.rows (doses-low ss)
