@@ -7,7 +7,6 @@ ghost use Rattle.histogram.specs.Extents.{extent_of};
 ghost use Rattle.histogram.specs.Lacks.{lacking, Covers, Lacks};
 
 use pictures::Picture;
-use std::array;
 
 // How many pixels there are of each level.
 // No model: clauses read the one field, which has nothing to keep, and a constant with a model could not be lent.
@@ -112,7 +111,10 @@ impl Histogram {
         requires { (k : ℕ) → slice_index self.old.counts k + slice_index more.now.counts k < 2 ^ 32 }
         ensures { self.new.counts ≡ added self.old.counts more.now.counts }
     {
-        self.counts = array::from_fn(|level| self.counts[level] + more.counts[level]);
+        // In place: a table made anew would be blanked first, and copied then.
+        for (level, count) in more.counts.iter().enumerate() {
+            self.counts[level] += *count;
+        }
     }
 
     // Level by level, the counts of another histogram off. A function for this and the one above would take a closure with a
@@ -121,7 +123,9 @@ impl Histogram {
         requires { Covers self.old.counts less.now.counts }
         ensures { self.new.counts ≡ removed self.old.counts less.now.counts }
     {
-        self.counts = array::from_fn(|level| self.counts[level] - less.counts[level]);
+        for (level, count) in less.counts.iter().enumerate() {
+            self.counts[level] -= *count;
+        }
     }
 
     // A loop over the counts with their levels, since number, first and last come in one go.

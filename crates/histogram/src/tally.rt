@@ -95,6 +95,8 @@ impl Tally {
     pub fn add(&mut self, more: &Tally) -> Result<(), Overfull>
         ensures answer { is_ok result ≡ nat_le (pixels self.old + pixels more.now) 65536 }
         ensures after { self.new ≡ (if is_ok result then added self.old more.now else self.old) }
+        ensures long { length self.new ≡ 256 }
+        ensures few { pixels self.new ≤ 65536 }
     {
         let total = self.total + more.total;
         if total as usize > MOST {
@@ -109,6 +111,8 @@ impl Tally {
     pub fn remove(&mut self, less: &Histogram) -> Result<(), Lacking>
         ensures answer { option_map (λ e. e.level) (result_err result) ≡ lacking self.old less.now.counts }
         ensures after { self.new ≡ (if is_ok result then removed self.old less.now.counts else self.old) }
+        ensures long { length self.new ≡ 256 }
+        ensures few { pixels self.new ≤ 65536 }
     {
         if let Some(level) = self.histogram.lacks(less) {
             return Err(Lacking { level });

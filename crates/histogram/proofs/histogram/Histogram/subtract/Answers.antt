@@ -1,6 +1,12 @@
-use Rattle.std.proofs.Common.{◌-◌, get_or, rules}
-use Rattle.histogram.proofs.Places.{made-still}
+use Rattle.std.proofs.Common.{◌-◌, arith, rules}
+use Rattle.histogram.proofs.Places.{joined-none, joined-more, joined-all}
 use Rattle.histogram.proofs.histogram.Histogram.subtract.Goals as goal
 
+pub loop-level-init : goal.loop-level-init
+loop-level-init c = joined-none ◌-◌ c.args.self.now.counts c.args.less.now.counts (search rules)
+
+pub loop-level-preserved : goal.loop-level-preserved
+loop-level-preserved c = joined-more ◌-◌ c.args.self.now.counts c.args.less.now.counts c.loop-level.self.counts c.loop-level.level _ (omega arith) (omega arith) c.loop-level.invariant
+
 pub returns : goal.returns
-returns c = made-still _ _ (λ j. get_or c.args.self.now.counts j 0 - get_or c.args.less.now.counts j 0) (λ i y q h. (search rules, search rules)) c.from_fn-self.result c.from_fn-self.ensures.items
+returns c = joined-all ◌-◌ c.args.self.now.counts c.args.less.now.counts c.loop-level.self.counts c.loop-level.level (omega arith) c.loop-level.invariant

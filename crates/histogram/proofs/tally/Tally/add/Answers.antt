@@ -17,3 +17,13 @@ invariant_of-self c =
     let e = c.add.ensures in
     let s = ap pixels e ∙ sum_added one t.inside.histogram.counts m.inside.histogram.counts in
     record { long = ap length e ∙ each_long _; adds = omega (arith, s, t.invariant.adds, m.invariant.adds); few = omega arith }
+
+pub returns-clause-long : goal.returns-clause-long
+returns-clause-long c = ap length c.add.ensures ∙ each_long _
+
+pub returns-clause-few : goal.returns-clause-few
+returns-clause-few c =
+    let t = c.self in
+    let m = c.more in
+    let s = ap pixels c.add.ensures ∙ sum_added one t.inside.histogram.counts m.inside.histogram.counts in
+    omega (arith, s, t.invariant.adds, m.invariant.adds)

@@ -23,3 +23,12 @@ invariant_of-self c =
     let e = c.subtract.ensures in
     let s = sum-removed one t.inside.histogram.counts c.args.less.now.counts c.in_default.ensures.lowest in
     record { long = ap length e ∙ each_long _; adds = omega (arith, ap pixels e, s, t.invariant.adds, c.total.ensures); few = omega (arith, t.invariant.few) }
+
+pub returns-clause-long : goal.returns-clause-long
+returns-clause-long c = ap length c.subtract.ensures ∙ each_long _
+
+pub returns-clause-few : goal.returns-clause-few
+returns-clause-few c =
+    let t = c.self in
+    let s = sum-removed one t.inside.histogram.counts c.args.less.now.counts c.in_default.ensures.lowest in
+    omega (arith, ap pixels c.subtract.ensures, s, t.invariant.adds, t.invariant.few)

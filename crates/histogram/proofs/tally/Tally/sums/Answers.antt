@@ -68,14 +68,14 @@ pub invariant_of-result : goal.invariant_of-result
 invariant_of-result c =
     let t = c.self in
     let r = room t.inside.histogram.counts c.args.low (suc c.args.high) (omega arith) in
-    let e = left c in
+    let e = left (goal.at.invariant_of-result c).Left-loop-level in
     record { few = omega (arith, r.few, t.invariant.adds, t.invariant.few, e.0); dim = omega (arith, r.dim, e.0, e.1) }
 
 pub returns : goal.returns
 returns c =
     let e = left (goal.at.returns c).Left-loop-level in
     record {
-      count = e.0 ∙ ap (λ h. count_of h c.args.low c.args.high) c.self.view_is;
-      levels = e.1 ∙ ap (λ h. level_sum h c.args.low c.args.high) c.self.view_is;
+      count = omega (arith, e.0, ap (λ h. count_of h c.args.low c.args.high) c.self.view_is);
+      levels = omega (arith, e.1, ap (λ h. level_sum h c.args.low c.args.high) c.self.view_is);
       few = omega (arith, c.self.invariant.adds, c.self.invariant.few, ap pixels c.self.view_is);
     }
