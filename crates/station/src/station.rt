@@ -1,13 +1,6 @@
 // The station and its calls.
 ghost use Rattle.std.specs.Prelude.{◌≡◌, ◌≤◌, true, List, length, take, is_ok, Some};
-ghost use Rattle.pictures.specs.Raster.{size};
-ghost use Rattle.histogram.specs.Counts.{histogram_of};
 ghost use Rattle.histogram.specs.Totals.{pixels};
-ghost use Rattle.cut_sets.specs.declared.band.Band.{Band as BandHeld};
-ghost use Rattle.cut_sets.specs.Sets.{bands_of};
-ghost use Rattle.painting.specs.Changes.{changed, change_of};
-ghost use Rattle.station.specs.Account.{start, step, outcome, lay, lift, otsu_cut, paint, paint_buffer, keeping, cut_into, band_held};
-ghost use Rattle.station.specs.States.{account_of, done_or, cut_or};
 
 use crate::fault::StationFault;
 use cut_sets::band::Band;
@@ -24,6 +17,9 @@ pub struct Station<R> {
     rule: R,
     tally: Tally,
     cuts: Option<CutSet>,
+    // What the tally keeps, said again, since a clause sees its counts alone.
+    ghost long: { length tally ≡ 256 },
+    ghost few: { pixels tally ≤ 65536 },
 }
 
 // What an accepted cut answers: how many classes, and the total distance from the pixels in hand to their band's level.
@@ -34,6 +30,14 @@ pub struct CutAnswer {
 }
 
 impl<R: DistanceRule> Station<R> {
+    ghost use Rattle.pictures.specs.Raster.{size};
+    ghost use Rattle.histogram.specs.Counts.{histogram_of};
+    ghost use Rattle.cut_sets.specs.declared.band.Band.{Band as BandHeld};
+    ghost use Rattle.cut_sets.specs.Sets.{bands_of};
+    ghost use Rattle.painting.specs.Changes.{changed, change_of};
+    ghost use Rattle.station.specs.Account.{start, step, outcome, lay, lift, otsu_cut, paint, paint_buffer, keeping, cut_into, band_held};
+    ghost use Rattle.station.specs.States.{account_of, done_or, cut_or};
+
     // No pixel in hand, and no cut set.
     pub fn new(rule: R) -> Station<R>
         ensures account { account_of result ≡ start }
