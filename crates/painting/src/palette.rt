@@ -14,12 +14,13 @@ pub struct Palette {
 }
 
 impl Palette {
+    // Made once a painting, and kept out of it: so a painting stays small enough to go into the loop of a caller.
+    #[inline(never)]
     pub fn new(set: &CutSet) -> Palette
         ensures { result.levels ≡ each (painted (bands_of set.now)) }
     {
-        Palette {
-            levels: array::from_fn(|level| set.level_of(level as u8)),
-        }
+        let levels = array::from_fn(|level| set.level_of(level as u8));
+        Palette { levels }
     }
 
     // What a level is painted with.

@@ -7,4 +7,4 @@ use Rattle.painting.proofs.palette.Palette.new.Goals as goal
 pub returns : goal.returns
 returns c =
     let set = c.args.set.now in
-    made-each _ (λ f. bands_of f.0.now ≡ bands_of set) (painted (bands_of set)) (λ f i y q a call. search rules) _ refl c.from_fn.result c.from_fn.ensures.items
+    made-each _ (λ f. bands_of f.0.now ≡ bands_of set) (painted (bands_of set)) (λ f i y q a call. search rules) _ refl c.from_fn-levels.result c.from_fn-levels.ensures.items
