@@ -1,6 +1,6 @@
 -- The level that stands for a level, band by band, in the first n places of a table.
-use Rattle.std.proofs.Common.{◌≡◌, ℕ, zero, suc, ◌+◌, ◌<◌, ◌≤◌, leb, List, [], ◌∷◌, length, sym, refl, ◌∙◌, arith}
-use Rattle.std.proofs.lemmas.Bool.{le-leb, lt-leb, cond-true, cond-false}
+use Rattle.std.proofs.Common.{◌≡◌, ℕ, zero, suc, ◌+◌, ◌<◌, ◌≤◌, leb, List, [], ◌∷◌, length, sym, refl, ◌∙◌, ⊎_elim, arith}
+use Rattle.std.proofs.lemmas.Bool.{cases_lt, le-leb, lt-leb, cond-true, cond-false}
 use Rattle.cut_sets.specs.declared.band.Band.{Band}
 use Rattle.cut_sets.specs.Bands.{band_at}
 use Rattle.cut_sets.specs.Painted.{painted, Paints}
@@ -24,3 +24,32 @@ painted-at (b ∷ (c ∷ bs)) v (suc n) t p r =
 
 pub painted-is : (bs : List Band) (v w : ℕ) → Paints bs v w → w ≡ painted bs v
 painted-is bs v w p = p.is ∙ painted-at bs v p.place p.there p.passed p.reached
+
+-- And they have one at all: what the definition gives, wherever there is a band.
+pub paints : (bs : List Band) (v : ℕ) → 0 < length bs → Paints bs v (painted bs v)
+paints [] v p = absurd (omega arith)
+paints (b ∷ []) v p = record { place = 0; there = omega arith; passed = λ i l. absurd (omega arith); reached = λ l. absurd (omega arith); is = refl }
+paints (b ∷ (c ∷ bs)) v p =
+    ⊎_elim
+    (λ (h : b.high < v).
+    let q = paints (c ∷ bs) v (omega arith) in
+    record {
+      place = suc q.place;
+      there = omega (arith, q.there);
+      passed = before q.place h q.passed;
+      reached = λ l. q.reached (omega arith);
+      is = above b (c ∷ bs) v (omega arith) h ∙ q.is;
+    })
+    (λ (h : v ≤ b.high).
+    record {
+      place = 0;
+      there = omega arith;
+      passed = λ i l. absurd (omega arith);
+      reached = λ l. h;
+      is = here b (c ∷ bs) v h;
+    })
+    (cases_lt b.high v)
+  where
+    before : (n : ℕ) → b.high < v → ((i : ℕ) → i < n → (band_at (c ∷ bs) i).high < v) → (i : ℕ) → i < suc n → (band_at (b ∷ (c ∷ bs)) i).high < v
+    before n h f zero l = h
+    before n h f (suc i) l = f i (omega arith)

@@ -3,10 +3,10 @@ use Rattle.std.proofs.Common.{◌≡◌, ℕ, suc, ◌+◌, ◌-◌, ◌*◌, �
 use native.Mathlib.Nat.{mul-mul-mul_comm}
 use Rattle.std.proofs.lemmas.Bool.{cases_lt}
 use Rattle.histogram.specs.Counts.{occupied, lowest, highest}
-use Rattle.histogram.specs.Totals.{one}
-use Rattle.histogram.proofs.Laws.{sum-suc, sum-empty, level-le}
+use Rattle.histogram.specs.Totals.{sum_of, one, level}
+use Rattle.histogram.proofs.Laws.{sum-suc, sum-empty, level-le, room}
 use Rattle.histogram.proofs.Spans.{spanned}
-use Rattle.otsu.specs.Otsu.{n0, n1, bottom}
+use Rattle.otsu.specs.Otsu.{n0, s0, n1, bottom}
 use Rattle.otsu.specs.Search.{Range}
 use Rattle.otsu.specs.declared.Classes.{Classes}
 
@@ -35,6 +35,14 @@ classes h lo up k r a b =
 
 pub bottom-pos : (h : List ℕ) (lo up k : ℕ) → Range h lo up → lo ≤ k → k < up → 0 < bottom h k
 bottom-pos h lo up k r a b = let c = classes h lo up k r a b in mul-pos c.some-low c.some-high
+
+-- The pixels of the lowest level are all up to it.
+pub low_sum : (h : List ℕ) (lo up : ℕ) → Range h lo up → s0 h lo ≡ get_or h lo 0 * lo
+low_sum h lo up r =
+    let u = r.level in
+    let x = r.apart in
+    let n : sum_of one h 0 lo ≡ 0 = omega (arith, sum-suc one h 0 lo (omega arith), r.none_below, mul-one (get_or h lo 0)) in
+    omega (arith, sum-suc level h 0 lo (omega arith), (room h 0 lo (omega arith)).dim, n)
 
 -- ---- the criterion's size
 amgm : (a d : ℕ) → a + (a + d) ≤ 65536 → a * (a + d) ≤ 2 ^ 30

@@ -1,7 +1,14 @@
 -- How many bytes at the front pass a test.
-use Rattle.std.proofs.Common.{◌≡◌, ℕ, zero, suc, ◌<◌, ◌≤◌, Bool, true, false, cond, List, [], ◌∷◌, ◌++◌, length, take, refl, arith}
+use Rattle.std.proofs.Common.{◌≡◌, ℕ, zero, suc, ◌+◌, ◌<◌, ◌≤◌, Bool, true, false, cond, List, [], ◌∷◌, ◌++◌, length, get_or, take, drop, refl, ap, ◌∙◌, arith}
 use Rattle.std.specs.List.{AllByRecursion}
+use Rattle.std.proofs.lemmas.List.{at_drop_more}
 use Rattle.pgm_reader.specs.Format.{run, starts}
+
+-- one byte more that passes
+pub run_more : (t : ℕ → Bool) (xs : List ℕ) (i : ℕ) → i < length xs → t (get_or xs i 0) ≡ true → run t xs ≡ i + run t (drop i xs) → run t xs ≡ i + 1 + run t (drop (i + 1) xs)
+run_more t xs i h e inv =
+    let s : run t (drop i xs) ≡ suc (run t (drop (i + 1) xs)) = at_drop_more (run t) xs i 0 h ∙ ap (λ v. cond v (suc (run t (drop (i + 1) xs))) 0) e in
+    omega (arith, s, inv)
 
 pub run-le : (t : ℕ → Bool) (bs : List ℕ) → run t bs ≤ length bs
 run-le t [] = omega arith
