@@ -26,7 +26,7 @@ fn main(rt: HostRuntime) -> anyhow::Result<()> {
                 bench.clear();
                 println!(rt; "case")?;
             }
-            Command::Start(picture) => pile = picture,
+            Command::Start { kind, given } => pile.start(rt.alloc(), kind, given.as_slice())?,
             Command::Put(layer) => pile.put(layer)?,
             Command::Clip => pile.clip(&rt)?,
             Command::Call(call) => pile.call(&mut bench, call)?,

@@ -1,14 +1,15 @@
 // A picture and up to three layers on it.
-ghost use Rattle.std.specs.Prelude.{◌≡◌, [], ◌∷◌, ◌++◌, is_ok, if◌then◌else◌, nat_lt};
+ghost use Rattle.std.specs.Prelude.{◌≡◌, [], ◌∷◌, ◌++◌, is_ok, if◌then◌else◌, nat_lt, IfOk, slice_index};
 ghost use Rattle.arrayvec.specs.ArrayVec.{array_vec_len};
 
 use crate::bench::Bench;
 use crate::layers::{Layer, layered};
-use crate::script::Call;
+use crate::script::{Call, Start};
 use anyhow::anyhow;
 use arrayvec::ArrayVec;
 use doses::DosePicture;
 use pictures::{BytePicture, EitherPicture, Picture};
+use std::alloc::Global;
 
 #[derive(Drop)]
 pub(crate) enum Samples {
@@ -36,6 +37,16 @@ impl Pile {
             samples,
             layers: ArrayVec::new(),
         }
+    }
+
+    // The picture of a line in place of this one, whose samples go first: two pictures are never held at once.
+    pub(crate) fn start(&mut self, heap: Global, kind: Start, given: &[usize]) -> anyhow::Result<()>
+        ensures columns { IfOk result (λ _. self.new.columns ≡ slice_index given.now 0) }
+        ensures layers { IfOk result (λ _. self.new.layers.items ≡ []) }
+    {
+        self.samples = Samples::Bytes(Vec::new(heap));
+        *self = kind.pile(heap, given)?;
+        Ok(())
     }
 
     // One layer more; refused, and nothing changed, where there are three.

@@ -1,5 +1,5 @@
 // What a line of a script asks for.
-ghost use Rattle.std.specs.Prelude.{◌≡◌, ◌<◌, ◌≤◌, length, take, MatchResult, IfOk, slice_index};
+ghost use Rattle.std.specs.Prelude.{◌≡◌, ◌<◌, ◌≤◌, [], length, take, MatchResult, IfOk, slice_index};
 ghost use Rattle.piles.specs.declared.layers.Layer.TheVariants.{Window};
 
 use crate::layers::Layer;
@@ -13,12 +13,35 @@ use std::str::SplitWhitespace;
 pub(crate) enum Command {
     // New stations.
     Case,
-    // A picture without a layer.
-    Start(Pile),
+    // A picture without a layer, from the numbers of its line.
+    Start { kind: Start, given: Vec<usize> },
     Put(Layer),
     // The first clipped sample.
     Clip,
     Call(Call),
+}
+
+// What the numbers of a picture's line say. The picture is made by the pile that takes it, and not where its line is read: so the
+// old one can go first.
+#[derive(Clone, Copy)]
+pub(crate) enum Start {
+    Bytes,
+    Ramp,
+    Doses,
+}
+
+impl Start {
+    // The picture of the numbers, without a layer.
+    pub(crate) fn pile(self, heap: Global, given: &[usize]) -> anyhow::Result<Pile>
+        ensures columns { IfOk result (λ pile. pile.columns ≡ slice_index given.now 0) }
+        ensures layers { IfOk result (λ pile. pile.layers.items ≡ []) }
+    {
+        match self {
+            Start::Bytes => bytes(heap, given),
+            Start::Ramp => ramp(heap, given),
+            Start::Doses => doses(heap, given),
+        }
+    }
 }
 
 // A call with the whole pile.
@@ -66,7 +89,10 @@ fn window(given: &[usize]) -> anyhow::Result<Layer>
 }
 
 // A byte picture.
-fn bytes(heap: Global, given: &[usize]) -> anyhow::Result<Pile> {
+fn bytes(heap: Global, given: &[usize]) -> anyhow::Result<Pile>
+    ensures columns { IfOk result (λ pile. pile.columns ≡ slice_index given.now 0) }
+    ensures layers { IfOk result (λ pile. pile.layers.items ≡ []) }
+{
     let [columns] = first::<1>(given)?;
     let bytes: Vec<u8> = given
         .iter()
@@ -77,7 +103,10 @@ fn bytes(heap: Global, given: &[usize]) -> anyhow::Result<Pile> {
 }
 
 // A byte picture of some bytes from a first on, each a step further.
-fn ramp(heap: Global, given: &[usize]) -> anyhow::Result<Pile> {
+fn ramp(heap: Global, given: &[usize]) -> anyhow::Result<Pile>
+    ensures columns { IfOk result (λ pile. pile.columns ≡ slice_index given.now 0) }
+    ensures layers { IfOk result (λ pile. pile.layers.items ≡ []) }
+{
     let [columns, count, start, step] = first::<4>(given)?;
     let bytes: Vec<u8> = (0..count)
         .map(|i| (start.wrapping_add(i.wrapping_mul(step)) & 0xff) as u8)
@@ -86,7 +115,10 @@ fn ramp(heap: Global, given: &[usize]) -> anyhow::Result<Pile> {
 }
 
 // A dose picture, each sample by its bits.
-fn doses(heap: Global, given: &[usize]) -> anyhow::Result<Pile> {
+fn doses(heap: Global, given: &[usize]) -> anyhow::Result<Pile>
+    ensures columns { IfOk result (λ pile. pile.columns ≡ slice_index given.now 0) }
+    ensures layers { IfOk result (λ pile. pile.layers.items ≡ []) }
+{
     let [columns] = first::<1>(given)?;
     let samples: Vec<f32> = given
         .iter()
@@ -125,15 +157,23 @@ pub(crate) fn read(heap: Global, line: &str) -> anyhow::Result<Option<Command>> 
         return Ok(None);
     };
     let given = numbers(heap, words)?;
-    let given = given.as_slice();
     Ok(Some(match word {
-        "bytes" => Command::Start(bytes(heap, given)?),
-        "ramp" => Command::Start(ramp(heap, given)?),
-        "doses" => Command::Start(doses(heap, given)?),
-        "window" => Command::Put(window(given)?),
+        "bytes" => Command::Start {
+            kind: Start::Bytes,
+            given,
+        },
+        "ramp" => Command::Start {
+            kind: Start::Ramp,
+            given,
+        },
+        "doses" => Command::Start {
+            kind: Start::Doses,
+            given,
+        },
+        "window" => Command::Put(window(given.as_slice())?),
         "negative" => Command::Put(Layer::Negative),
         "halving" => Command::Put(Layer::Halving),
         "clip" => Command::Clip,
-        _ => Command::Call(call_of(word, given)?),
+        _ => Command::Call(call_of(word, given.as_slice())?),
     }))
 }
